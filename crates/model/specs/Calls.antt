@@ -1,0 +1,228 @@
+-- The calls, once, over what a pool can do: which test refuses a call, and what a call does that no test refuses.
+use Prim.Native.Nat.{ℕ, _+_, _-_}
+use mathlib.Core.Bool.{Bool, true, false, not, cond, _&&_}
+use mathlib.Core.List.{List, [], _∷_, _++_}
+use mathlib.Core.Option.{Option, none, some}
+use lib.Dec.{leb, eqb}
+use lib.IntN.{ℤ, pos, negsuc}
+pub use Rattle.model.specs.declared.BlockOffset.{BlockOffset}
+pub use Rattle.model.specs.declared.HeaderPlace.{HeaderPlace}
+pub use Rattle.model.specs.declared.Woken.{Woken}
+use Rattle.model.specs.Limits.{longest-limit, forever, e-ok, waiting, e-sys, e-par, e-id, e-ctx, e-obj, e-rlwai, e-tmout}
+use Rattle.model.specs.Blocks.{Block, total, tiled, fits, firstFit, granted, liveAt, freed, sumFree, greatestFree}
+use Rattle.model.specs.Waiting.{Entry, waits, remove, headTask, insert, blocked, expired, remaining}
+use Rattle.model.specs.Rules.{Rules, okTask, queued}
+
+-- ---- offsets and places: converted only here
+
+-- a block's *offset* is its header's place plus 8
+abbrev pub offsetOf : HeaderPlace → BlockOffset
+offsetOf p = record { 0 = p .0 + 8 }
+
+-- the header's place of an offset that is at least 8
+abbrev pub placeOf : BlockOffset → HeaderPlace
+placeOf o = record { 0 = o .0 - 8 }
+
+abbrev pub noOffset : BlockOffset
+noOffset = record { 0 = 0 }
+
+-- ---- calls and answers
+
+-- The time limit is signed: -1 is forever, 0 makes the get a poll, positive is ticks.
+pub record Request : Type 0 where
+  pub task : ℕ
+  pub size : ℕ
+  pub limit : ℤ
+
+-- every call but create
+pub data Call : Type 0 where
+  get : Request → Call
+  release : BlockOffset → Call
+  cancel : ℕ → Call
+  tick : Call
+  inquire : Call
+
+abbrev pub poll : ℕ → ℕ → Call
+poll t n = get (record { task = t; size = n; limit = pos 0 })
+
+-- All that a caller is told. Inquire's three numbers are 0 where a call does not give them.
+pub record Said : Type 0 where
+  pub code : ℤ
+  pub offset : BlockOffset
+  pub woken : List Woken
+  pub sum : ℕ
+  pub greatest : ℕ
+  pub head : ℕ
+
+-- what is told, and the state that the call leaves
+pub record Reply (S : Type 0) : Type 0 where
+  pub said : Said
+  pub state : S
+
+abbrev pub says : ℤ → BlockOffset → List Woken → Said
+says c o ws = record { code = c; offset = o; woken = ws; sum = 0; greatest = 0; head = 0 }
+
+-- a refusal: offset 0, nobody woken, nothing changed
+abbrev pub refuse : {S : Type 0} → S → ℤ → Reply S
+refuse s c = record { said = says c noOffset []; state = s }
+
+-- refused by a code, or the reply of the call itself
+abbrev pub decide : {S : Type 0} → S → Option ℤ → Reply S → Reply S
+decide s (some c) r = refuse s c
+decide s none r = r
+
+-- the first test that fails decides
+abbrev pub deny : Bool → ℤ → Option ℤ → Option ℤ
+deny true c rest = some c
+deny false c rest = rest
+
+-- a limit that may be asked
+abbrev pub okLimit : ℤ → Bool
+okLimit (pos n) = leb n longest-limit
+okLimit (negsuc n) = eqb n 0
+
+abbrev pub isPoll : ℤ → Bool
+isPoll (pos n) = eqb n 0
+isPoll (negsuc n) = false
+
+-- the time left of a wait, from its limit
+abbrev pub leftOf : ℤ → ℕ
+leftOf (pos n) = n
+leftOf (negsuc n) = forever
+
+abbrev pub entryOf : Request → Entry
+entryOf r = record { task = r .task; size = r .size; left = leftOf (r .limit) }
+
+-- a task leaves the queue without a block
+abbrev pub leaves : ℤ → ℕ → Woken
+leaves c t = record { task = t; code = c; offset = noOffset }
+
+unfoldable pub leave : ℤ → List ℕ → List Woken
+leave c [] = []
+leave c (t ∷ ts) = leaves c t ∷ leave c ts
+
+-- ---- the pool
+
+-- What the calls ask of a pool, and do to it; sizes are those of blocks, header included.
+pub record Store (P : Type 0) : Type 0 where
+  pub sound : P → Bool
+  pub fits : ℕ → P → Bool
+  pub place : ℕ → P → HeaderPlace
+  pub grant : ℕ → ℕ → P → P
+  pub live : HeaderPlace → P → Bool
+  pub free : HeaderPlace → P → P
+  pub sum : P → ℕ
+  pub greatest : P → ℕ
+
+-- the block list: sound where its sizes add up to the pool's length and its blocks may follow one another
+abbrev pub blocks : Rules → Store (List Block)
+blocks K =
+    record {
+      sound = λ bs. eqb (total bs) (K .long) && tiled (K .tasks) false bs;
+      fits = fits;
+      place = λ n bs. record { 0 = firstFit n bs };
+      grant = granted;
+      live = λ p bs. liveAt (p .0) bs;
+      free = λ p bs. freed (p .0) bs;
+      sum = sumFree;
+      greatest = greatestFree;
+    }
+
+pub record State (P : Type 0) : Type 0 where
+  pub pool : P
+  pub queue : List Entry
+
+abbrev pub state : {P : Type 0} → P → List Entry → State P
+state p q = record { pool = p; queue = q }
+
+-- the tasks that were served, and the state that is left
+pub record Served (P : Type 0) : Type 0 where
+  pub woken : List Woken
+  pub state : State P
+
+abbrev pub noted : {P : Type 0} → Woken → Served P → Served P
+noted w r = record { woken = w ∷ r .woken; state = r .state }
+
+-- the reply of a call after which is served: those who leave first, then those who are served
+abbrev pub wake : {P : Type 0} → List Woken → Served P → Reply (State P)
+wake first r = record { said = says e-ok noOffset (first ++ r .woken); state = r .state }
+
+module _ (K : Rules) {P : Type 0} (E : Store P) where
+  -- ---- steps
+
+  abbrev pub fitting : Entry → P → Bool
+  fitting e p = E .fits (K .need (e .size)) p
+
+  abbrev pub offset : Entry → P → BlockOffset
+  offset e p = offsetOf (E .place (K .need (e .size)) p)
+
+  abbrev pub given : Entry → P → P
+  given e p = E .grant (K .need (e .size)) (e .task) p
+
+  abbrev pub wakes : Entry → P → Woken
+  wakes e p = record { task = e .task; code = e-ok; offset = offset e p }
+
+  -- *Serve*: while there is a head and it fits, grant it, remove it, and note it as woken; stop at the first that does not fit
+  unfoldable pub serve : P → List Entry → Served P
+  serve p [] = record { woken = []; state = state p [] }
+  serve p (e ∷ q) =
+      cond (fitting e p)
+      (noted (wakes e p) (serve (given e p) q))
+      (record { woken = []; state = state p (e ∷ q) })
+
+  -- the head, if any, fits no free run
+  unfoldable pub headStuck : P → List Entry → Bool
+  headStuck p [] = true
+  headStuck p (e ∷ q) = not (fitting e p)
+
+  -- *Sound*: pool and queue are as document 01 has them, and the head fits no free run
+  unfoldable pub sound : State P → Bool
+  sound s = K .valid && (E .sound (s .pool) && (queued K (s .queue) && headStuck (s .pool) (s .queue)))
+
+  -- ---- the tests
+
+  -- a request is granted at once: nobody who waits is served before it, and a run fits
+  abbrev pub goes : Entry → State P → Bool
+  goes e s = not (blocked (K .rank) e (s .queue)) && fitting e (s .pool)
+
+  -- the offset of a live block
+  abbrev pub isLive : BlockOffset → P → Bool
+  isLive o p = leb 8 (o .0) && E .live (placeOf o) p
+
+  -- the tests of a call in a sound state, in order
+  unfoldable pub tests : Call → State P → Option ℤ
+  tests (get r) s =
+      deny (not (okTask K (r .task))) e-id
+      (deny (not (K .allowed (entryOf r) && okLimit (r .limit))) e-par
+      (deny (waits (r .task) (s .queue)) e-ctx
+      (deny (isPoll (r .limit) && not (goes (entryOf r) s)) e-tmout none)))
+  tests (release o) s = deny (not (isLive o (s .pool))) e-par none
+  tests (cancel t) s = deny (not (okTask K t)) e-id (deny (not (waits t (s .queue))) e-obj none)
+  tests tick s = none
+  tests inquire s = none
+
+  -- the code by which a call is refused, if any, given whether the state is sound
+  abbrev pub verdict : Bool → Call → State P → Option ℤ
+  verdict ok c s = deny (not ok) e-sys (tests c s)
+
+  -- ---- the calls that no test refuses
+
+  abbrev pub grants : Entry → State P → Reply (State P)
+  grants e s = record { said = says e-ok (offset e (s .pool)) []; state = state (given e (s .pool)) (s .queue) }
+
+  abbrev pub joins : Entry → State P → Reply (State P)
+  joins e s = record { said = says waiting noOffset []; state = state (s .pool) (insert (K .rank) e (s .queue)) }
+
+  unfoldable pub act : Call → State P → Reply (State P)
+  act (get r) s = cond (goes (entryOf r) s) (grants (entryOf r) s) (joins (entryOf r) s)
+  act (release o) s = wake [] (serve (E .free (placeOf o) (s .pool)) (s .queue))
+  act (cancel t) s = wake (leaves e-rlwai t ∷ []) (serve (s .pool) (remove t (s .queue)))
+  act tick s = wake (leave e-tmout (expired (s .queue))) (serve (s .pool) (remaining (s .queue)))
+  act inquire s =
+      record {
+        said = record { code = e-ok; offset = noOffset; woken = []; sum = E .sum (s .pool); greatest = E .greatest (s .pool); head = headTask (s .queue) };
+        state = s;
+      }
+
+  unfoldable pub step : Call → State P → Reply (State P)
+  step c s = decide s (verdict (sound s) c s) (act c s)

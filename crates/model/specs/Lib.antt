@@ -1,0 +1,10 @@
+pub mod Limits
+pub mod Blocks
+pub mod Waiting
+pub mod Rules
+pub mod Calls
+pub mod Runs
+pub mod Bytes
+pub mod Places
+pub mod Pool
+pub mod Table

@@ -1,0 +1,59 @@
+-- The limits of document 01, and the codes that a call answers.
+use Prim.Native.Nat.{ℕ, _-_}
+use lib.IntN.{ℤ, pos, negsuc}
+
+-- ---- limits
+
+-- tasks are numbered 1 to this, and the queue and the woken list have as many places
+abbrev pub most-tasks : ℕ
+most-tasks = 32
+
+-- the greatest length of a pool, in bytes
+abbrev pub longest-pool : ℕ
+longest-pool = 65536
+
+-- the greatest time limit of a get, in ticks
+abbrev pub longest-limit : ℕ
+longest-limit = 2147483647
+
+-- the greatest time left of a limited wait, in ticks
+abbrev pub longest-left : ℕ
+longest-left = longest-limit
+
+-- the time left of a wait without a limit
+abbrev pub forever : ℕ
+forever = 4294967295
+
+-- ---- codes, by their names in the µITRON 4.0 specification
+
+abbrev pub minus : ℕ → ℤ
+minus n = negsuc (n - 1)
+
+-- granted, or done
+abbrev pub e-ok : ℤ
+e-ok = pos 0
+
+-- told to wait
+abbrev pub waiting : ℤ
+waiting = pos 1
+
+abbrev pub e-sys : ℤ
+e-sys = minus 5
+
+abbrev pub e-par : ℤ
+e-par = minus 17
+
+abbrev pub e-id : ℤ
+e-id = minus 18
+
+abbrev pub e-ctx : ℤ
+e-ctx = minus 25
+
+abbrev pub e-obj : ℤ
+e-obj = minus 41
+
+abbrev pub e-rlwai : ℤ
+e-rlwai = minus 49
+
+abbrev pub e-tmout : ℤ
+e-tmout = minus 50

@@ -1,0 +1,86 @@
+-- The calls on a state as its caller keeps it, the pool's bytes and the queue's places: what the public functions promise.
+use Prim.Native.Nat.{ℕ, _<_}
+use mathlib.Core.Path.{_≡_}
+use mathlib.Core.Bool.{Bool, not, cond, _&&_}
+use mathlib.Core.List.{List, [], _∷_}
+use mathlib.Core.Option.{Option, none, some}
+use lib.ListN.{length, getD}
+use lib.IntN.{ℤ}
+pub use Rattle.model.specs.declared.Answer.{Answer}
+pub use Rattle.model.specs.declared.Totals.{Totals}
+use Rattle.model.specs.Limits.{most-tasks, e-ok, e-par}
+use Rattle.model.specs.Blocks.{Block, block}
+use Rattle.model.specs.Bytes.{blocksOf, render, erase}
+use Rattle.model.specs.Rules.{Rules, base}
+use Rattle.model.specs.Calls.{Call, inquire, noOffset, Said, Reply, State, state, says, decide, deny, blocks, sound, verdict, act}
+use Rattle.model.specs.Places.{Queue, tidy, entriesOf, queueOf, wokenOf}
+
+pub record Stored : Type 0 where
+  pub bytes : List ℕ
+  pub queue : Queue
+
+abbrev pub stored : List ℕ → Queue → Stored
+stored l q = record { bytes = l; queue = q }
+
+-- what the types of the code say of a state: bytes are below 256, and the queue has its places
+pub record Typed (p : Stored) : Type 0 where
+  pub byte : (i : ℕ) → getD (p .bytes) i 0 < 256
+  pub places : length (p .queue .entries) ≡ most-tasks
+
+-- the block list and the entries
+abbrev pub view : Stored → State (List Block)
+view p = state (blocksOf (p .bytes)) (entriesOf (p .queue))
+
+-- After a call, headers of the old block list are erased and those of the new one written: new headers stand in their places, swallowed ones are
+-- zero, every other byte is kept.
+abbrev pub settled : Stored → Reply (State (List Block)) → Reply Stored
+settled p r = record { said = r .said; state = stored (render (r .state .pool) (erase (blocksOf (p .bytes)) (p .bytes))) (queueOf (r .state .queue)) }
+
+-- the rules come from the pool's length
+module _ (R : ℕ → Rules) where
+  abbrev pub rulesOf : Stored → Rules
+  rulesOf p = R (length (p .bytes))
+
+  unfoldable pub isSound : Stored → Bool
+  isSound p = sound (rulesOf p) (blocks (rulesOf p)) (view p) && tidy (p .queue .entries)
+
+  -- any call but create
+  unfoldable pub perform : Call → Stored → Reply Stored
+  perform c p =
+      decide p
+      (verdict (rulesOf p) (blocks (rulesOf p)) (isSound p) c (view p))
+      (settled p (act (rulesOf p) (blocks (rulesOf p)) c (view p)))
+
+  -- create: one free run of all bytes at 0, every other byte kept, and an empty queue
+  unfoldable pub create : List ℕ → Reply Stored
+  create l =
+      decide (stored l (queueOf []))
+      (deny (not (R (length l) .valid)) e-par none)
+      (record { said = says e-ok noOffset []; state = stored (render (block (length l) 0 ∷ []) l) (queueOf []) })
+
+-- ---- what the functions of the pool of document 01 answer, with the bytes that they leave
+
+pub record Result : Type 0 where
+  pub answer : Answer
+  pub bytes : List ℕ
+
+abbrev pub result : Answer → List ℕ → Result
+result a l = record { answer = a; bytes = l }
+
+abbrev pub answered : Reply Stored → Result
+answered r =
+    result
+    (record { code = r .said .code; offset = r .said .offset; woken = wokenOf (r .said .woken); queue = r .state .queue })
+    (r .state .bytes)
+
+abbrev pub created : List ℕ → Result
+created l = answered (create base l)
+
+abbrev pub called : Call → List ℕ → Queue → Result
+called c l q = answered (perform base c (stored l q))
+
+abbrev pub totals : Said → Totals
+totals a = record { code = a .code; sum = a .sum; greatest = a .greatest; head = a .head }
+
+abbrev pub inquired : List ℕ → Queue → Totals
+inquired l q = totals (perform base inquire (stored l q) .said)

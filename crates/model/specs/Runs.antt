@@ -1,0 +1,85 @@
+-- Runs: calls one after the other, each handed its state as the call before left it; and what demand 3 says of them.
+use Prim.Native.Nat.{ℕ, zero, suc}
+use mathlib.Core.Path.{_≡_}
+use mathlib.Core.Bool.{Bool, true, false, cond}
+use mathlib.Core.List.{List, [], _∷_}
+use mathlib.Core.Option.{Option, none, some}
+use lib.Dec.{eqb}
+use lib.IntN.{ℤ, pos, negsuc}
+use Rattle.model.specs.Limits.{e-ok, e-rlwai}
+use Rattle.model.specs.Waiting.{Entry}
+use Rattle.model.specs.Calls.{BlockOffset, Woken, noOffset, Request, Call, get, release, cancel, tick, inquire, Said, Reply, says, entryOf, leaves}
+
+-- a call of a run and what it was told
+pub record Turn : Type 0 where
+  pub call : Call
+  pub said : Said
+
+module _ {S : Type 0} (step : Call → S → Reply S) where
+  -- the state that a run leaves
+  unfoldable pub after : S → List Call → S
+  after s [] = s
+  after s (c ∷ cs) = after (step c s .state) cs
+
+  unfoldable pub run : S → List Call → List Turn
+  run s [] = []
+  run s (c ∷ cs) = record { call = c; said = step c s .said } ∷ run (step c s .state) cs
+
+-- ---- lists of gets
+
+unfoldable pub gets : List Request → List Call
+gets [] = []
+gets (r ∷ rs) = get r ∷ gets rs
+
+-- the code of a refusal: neither 0 nor 1
+unfoldable pub refusedBy : ℤ → Option ℤ
+refusedBy (pos zero) = none
+refusedBy (pos (suc zero)) = none
+refusedBy (pos (suc (suc n))) = some (pos (suc (suc n)))
+refusedBy (negsuc n) = some (negsuc n)
+
+-- which calls of a run were refused, and by which codes
+unfoldable pub refusals : List Turn → List (Option ℤ)
+refusals [] = []
+refusals (x ∷ l) = refusedBy (x .said .code) ∷ refusals l
+
+abbrev pub isZero : ℤ → Bool
+isZero (pos n) = eqb n 0
+isZero (negsuc n) = false
+
+-- the task of a get
+abbrev pub asker : Call → ℕ
+asker (get r) = r .task
+asker (release o) = 0
+asker (cancel t) = 0
+asker tick = 0
+asker inquire = 0
+
+-- the tasks whose gets answered 0, in order, with code 0 and the offsets answered
+unfoldable pub winners : List Turn → List Woken
+winners [] = []
+winners (x ∷ l) = cond (isZero (x .said .code)) (record { task = asker (x .call); code = e-ok; offset = x .said .offset } ∷ winners l) (winners l)
+
+-- no request is by the task t
+unfoldable pub Absent : ℕ → List Request → Type 0
+Absent t [] = Unit {0}
+Absent t (r ∷ rs) = (r .task ≡ t → ⊥) × Absent t rs
+
+-- by other tasks than t, each with any limit but 0, no task twice, and all of the rank k
+unfoldable pub Others : (Entry → ℕ) → ℕ → ℕ → List Request → Type 0
+Others rank t k [] = Unit {0}
+Others rank t k (r ∷ rs) = (r .task ≡ t → ⊥) × (r .limit ≡ pos 0 → ⊥) × (rank (entryOf r) ≡ k) × Absent (r .task) rs × Others rank t k rs
+
+-- ---- demand 3
+
+module _ {S : Type 0} (step : Call → S → Reply S) (s : S) where
+  -- First half: after the get f and the gets rs, the cancel of f's task leaves what the gets rs alone leave, wakes that task with -49 and then
+  -- those whom the gets alone grant, and the same gets are refused.
+  pub record NoTrace (f : Request) (rs : List Request) : Type 0 where
+    pub cancelled : step (cancel (f .task)) (after step (step (get f) s .state) (gets rs))
+        ≡ record { said = says e-ok noOffset (leaves e-rlwai (f .task) ∷ winners (run step s (gets rs))); state = after step s (gets rs) }
+    pub refused : refusals (run step (step (get f) s .state) (gets rs)) ≡ refusals (run step s (gets rs))
+
+  -- Second half: the release of the offset that the get r answered.
+  abbrev pub undo : Request → Reply S
+  undo r = step (release (step (get r) s .said .offset)) (step (get r) s .state)

@@ -1,0 +1,196 @@
+-- Document 01's examples marked *, as one table: in each row a pool is created and called, and all that is expected is written down.
+use Prim.Native.Nat.{ℕ, _+_, _-_}
+use mathlib.Core.List.{List, [], _∷_, _++_}
+use lib.ListN.{replicate}
+use lib.IntN.{ℤ, pos, negsuc}
+use Rattle.model.specs.Limits.{forever, minus, e-ok, waiting, e-par, e-rlwai, e-tmout}
+use Rattle.model.specs.Blocks.{Block, block}
+use Rattle.model.specs.Waiting.{Entry}
+use Rattle.model.specs.Rules.{base}
+use Rattle.model.specs.Calls.{Woken, Request, Call, get, poll, release, cancel, tick, inquire, Said, Reply, says}
+use Rattle.model.specs.Pool.{Stored, view, perform, create}
+
+-- a call, what it is told, and the block list and queue that it leaves
+pub record Line : Type 0 where
+  pub call : Call
+  pub said : Said
+  pub blocks : List Block
+  pub queue : List Entry
+
+-- a pool of `long` bytes, each 170 before it is created; the code of its creation, the calls, and the bytes at the end
+pub record Row : Type 0 where
+  pub long : ℕ
+  pub code : ℤ
+  pub lines : List Line
+  pub bytes : List ℕ
+
+-- ---- a row's calls, carried out
+
+abbrev pub lineOf : Call → Reply Stored → Line
+lineOf c r = record { call = c; said = r .said; blocks = view (r .state) .pool; queue = view (r .state) .queue }
+
+unfoldable pub linesFrom : Stored → List Line → List Line
+linesFrom p [] = []
+linesFrom p (x ∷ xs) = lineOf (x .call) (perform base (x .call) p) ∷ linesFrom (perform base (x .call) p .state) xs
+
+unfoldable pub stateFrom : Stored → List Line → Stored
+stateFrom p [] = p
+stateFrom p (x ∷ xs) = stateFrom (perform base (x .call) p .state) xs
+
+abbrev pub fresh : ℕ → Reply Stored
+fresh n = create base (replicate n 170)
+
+abbrev pub played : Row → Row
+played r =
+    record {
+      long = r .long;
+      code = fresh (r .long) .said .code;
+      lines = linesFrom (fresh (r .long) .state) (r .lines);
+      bytes = stateFrom (fresh (r .long) .state) (r .lines) .bytes;
+    }
+
+unfoldable pub playedAll : List Row → List Row
+playedAll [] = []
+playedAll (r ∷ rs) = played r ∷ playedAll rs
+
+-- ---- the rows
+
+-- a get has no limit where none is given
+abbrev pub wants : ℕ → ℕ → Call
+wants t n = get (record { task = t; size = n; limit = minus 1 })
+
+abbrev pub wantsFor : ℕ → ℕ → ℕ → Call
+wantsFor t n limit = get (record { task = t; size = n; limit = pos limit })
+
+abbrev pub at : ℕ → Call
+at o = release (record { 0 = o })
+
+abbrev told : ℤ → ℕ → List Woken → Said
+told c o ws = says c (record { 0 = o }) ws
+
+abbrev woke : ℕ → ℤ → ℕ → Woken
+woke t c o = record { task = t; code = c; offset = record { 0 = o } }
+
+abbrev waitsFor : ℕ → ℕ → ℕ → Entry
+waitsFor t n left = record { task = t; size = n; left = left }
+
+abbrev line : Call → Said → List Block → List Entry → Line
+line c a bs q = record { call = c; said = a; blocks = bs; queue = q }
+
+abbrev pub blocks-b : List Block
+blocks-b = block 20 1 ∷ block 44 0 ∷ []
+
+abbrev pub blocks-c : List Block
+blocks-c = block 20 1 ∷ block 28 2 ∷ block 16 0 ∷ []
+
+abbrev pub queue-e : List Entry
+queue-e = waitsFor 3 12 forever ∷ waitsFor 4 4 forever ∷ []
+
+abbrev pub to-c : List Line
+to-c = line (wants 1 10) (told e-ok 8 []) blocks-b [] ∷ line (wants 2 20) (told e-ok 28 []) blocks-c [] ∷ []
+
+abbrev pub to-e : List Line
+to-e =
+    to-c ++ (line (wants 3 12) (told waiting 0 []) blocks-c (waitsFor 3 12 forever ∷ [])
+    ∷ line (wants 4 4) (told waiting 0 []) blocks-c queue-e
+    ∷ [])
+
+-- the 8 bytes of a header whose size is below 256
+abbrev head : ℕ → ℕ → List ℕ
+head n t = n ∷ 0 ∷ 0 ∷ 0 ∷ t ∷ 0 ∷ 0 ∷ 0 ∷ []
+
+abbrev body : ℕ → List ℕ
+body n = replicate n 170
+
+abbrev bytes-c : List ℕ
+bytes-c = head 20 1 ++ body 12 ++ head 28 2 ++ body 20 ++ head 16 0 ++ body 8
+
+abbrev pub row-a : Row
+row-a = record { long = 64; code = e-ok; lines = []; bytes = head 64 0 ++ body 56 }
+
+abbrev pub row-b : Row
+row-b = record { long = 64; code = e-ok; lines = line (wants 1 10) (told e-ok 8 []) blocks-b [] ∷ []; bytes = head 20 1 ++ body 12 ++ head 44 0 ++ body 36 }
+
+abbrev pub row-c : Row
+row-c = record { long = 64; code = e-ok; lines = to-c; bytes = bytes-c }
+
+abbrev pub row-e : Row
+row-e = record { long = 64; code = e-ok; lines = to-e; bytes = bytes-c }
+
+-- after e also what inquire tells
+abbrev pub row-f : Row
+row-f =
+    record {
+      long = 64;
+      code = e-ok;
+      lines = to-e ++ (line (poll 5 4) (told e-tmout 0 []) blocks-c queue-e
+          ∷ line inquire (record { code = e-ok; offset = record { 0 = 0 }; woken = []; sum = 8; greatest = 8; head = 3 }) blocks-c queue-e
+          ∷ []);
+      bytes = bytes-c;
+    }
+
+abbrev pub row-g : Row
+row-g =
+    record {
+      long = 64;
+      code = e-ok;
+      lines = to-e ++ (line (cancel 3) (told e-ok 0 (woke 3 e-rlwai 0 ∷ woke 4 e-ok 56 ∷ [])) (block 20 1 ∷ block 28 2 ∷ block 16 4 ∷ []) [] ∷ []);
+      bytes = head 20 1 ++ body 12 ++ head 28 2 ++ body 20 ++ head 16 4 ++ body 8;
+    }
+
+abbrev pub row-h : Row
+row-h =
+    record {
+      long = 64;
+      code = e-ok;
+      lines = to-e ++ (line (at 8) (told e-ok 0 (woke 3 e-ok 8 ∷ woke 4 e-ok 56 ∷ [])) (block 20 3 ∷ block 28 2 ∷ block 16 4 ∷ []) [] ∷ []);
+      bytes = head 20 3 ++ body 12 ++ head 28 2 ++ body 20 ++ head 16 4 ++ body 8;
+    }
+
+-- bytes 48 to 55 are zero
+abbrev pub row-i : Row
+row-i =
+    record {
+      long = 64;
+      code = e-ok;
+      lines = to-c ++ (line (at 28) (told e-ok 0 []) blocks-b [] ∷ []);
+      bytes = head 20 1 ++ body 12 ++ head 44 0 ++ body 20 ++ replicate 8 0 ++ body 8;
+    }
+
+abbrev pub row-j : Row
+row-j =
+    let blocks-j = block 20 0 ∷ block 28 2 ∷ block 16 0 ∷ [] in
+    record {
+      long = 64;
+      code = e-ok;
+      lines = to-c ++ (line (at 12) (told e-par 0 []) blocks-c []
+          ∷ line (at 8) (told e-ok 0 []) blocks-j []
+          ∷ line (at 8) (told e-par 0 []) blocks-j []
+          ∷ []);
+      bytes = head 20 0 ++ body 12 ++ head 28 2 ++ body 20 ++ head 16 0 ++ body 8;
+    }
+
+-- k: the greatest request and one more, of a length n
+abbrev pub row-k : ℕ → ℕ → Row
+row-k n most =
+    record {
+      long = n;
+      code = e-ok;
+      lines = line (wants 1 (most + 1)) (told e-par 0 []) (block n 0 ∷ []) [] ∷ line (wants 1 most) (told e-ok 8 []) (block n 1 ∷ []) [] ∷ [];
+      bytes = head n 1 ++ body (n - 8);
+    }
+
+abbrev pub row-l : Row
+row-l =
+    record {
+      long = 64;
+      code = e-ok;
+      lines = to-c ++ (line (wantsFor 3 12 1) (told waiting 0 []) blocks-c (waitsFor 3 12 1 ∷ [])
+          ∷ line (wants 4 4) (told waiting 0 []) blocks-c (waitsFor 3 12 1 ∷ waitsFor 4 4 forever ∷ [])
+          ∷ line tick (told e-ok 0 (woke 3 e-tmout 0 ∷ woke 4 e-ok 56 ∷ [])) (block 20 1 ∷ block 28 2 ∷ block 16 4 ∷ []) []
+          ∷ []);
+      bytes = head 20 1 ++ body 12 ++ head 28 2 ++ body 20 ++ head 16 4 ++ body 8;
+    }
+
+abbrev pub table : List Row
+table = row-a ∷ row-b ∷ row-c ∷ row-e ∷ row-f ∷ row-g ∷ row-h ∷ row-i ∷ row-j ∷ row-k 64 56 ∷ row-k 12 4 ∷ row-l ∷ []

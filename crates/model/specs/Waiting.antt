@@ -1,0 +1,67 @@
+-- The waiting queue as the list of its entries: who waits, who joins, who leaves, and a tick.
+use Prim.Native.Nat.{ℕ, _-_}
+use mathlib.Core.Bool.{Bool, true, false, not, cond, _&&_, _||_}
+use mathlib.Core.List.{List, [], _∷_}
+use lib.Dec.{leb, eqb}
+use Rattle.model.specs.Limits.{longest-left, forever}
+pub use Rattle.model.specs.declared.Entry.{Entry}
+
+-- the task t waits
+unfoldable pub waits : ℕ → List Entry → Bool
+waits t [] = false
+waits t (e ∷ q) = eqb (e .task) t || waits t q
+
+-- the queue without the entry of the task t
+unfoldable pub remove : ℕ → List Entry → List Entry
+remove t [] = []
+remove t (e ∷ q) = cond (eqb (e .task) t) q (e ∷ remove t q)
+
+unfoldable pub headTask : List Entry → ℕ
+headTask [] = 0
+headTask (e ∷ q) = e .task
+
+-- ---- the order: a lower rank is served first, equal ranks by who asked first
+
+module _ (rank : Entry → ℕ) where
+  -- a newcomer stands behind those of lower or equal rank
+  unfoldable pub insert : Entry → List Entry → List Entry
+  insert e [] = e ∷ []
+  insert e (x ∷ q) = cond (leb (rank x) (rank e)) (x ∷ insert e q) (e ∷ x ∷ q)
+
+  -- somebody waits who is served before a newcomer; in a queue in order that is its head, if anyone
+  unfoldable pub blocked : Entry → List Entry → Bool
+  blocked e [] = false
+  blocked e (x ∷ q) = leb (rank x) (rank e)
+
+  -- x stands before each of the others: another task, and no higher rank
+  unfoldable pub leads : Entry → List Entry → Bool
+  leads x [] = true
+  leads x (y ∷ q) = (not (eqb (y .task) (x .task)) && leb (rank x) (rank y)) && leads x q
+
+-- ---- time
+
+-- a time left that may stand in an entry: forever, or 1 to the greatest
+abbrev pub okLeft : ℕ → Bool
+okLeft l = leb 1 l && (leb l longest-left || eqb l forever)
+
+-- the entry with another time left
+abbrev pub withLeft : ℕ → Entry → Entry
+withLeft l e = record { task = e .task; size = e .size; left = l }
+
+-- a tick ends the wait
+abbrev pub expires : Entry → Bool
+expires e = eqb (e .left) 1
+
+-- a tick takes one from a limited wait
+abbrev pub aged : Entry → Entry
+aged e = withLeft (cond (eqb (e .left) forever) forever (e .left - 1)) e
+
+-- the tasks whose wait a tick ends, in queue order
+unfoldable pub expired : List Entry → List ℕ
+expired [] = []
+expired (e ∷ q) = cond (expires e) (e .task ∷ expired q) (expired q)
+
+-- the entries that stay, each a tick older
+unfoldable pub remaining : List Entry → List Entry
+remaining [] = []
+remaining (e ∷ q) = cond (expires e) (remaining q) (aged e ∷ remaining q)

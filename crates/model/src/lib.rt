@@ -1,0 +1,66 @@
+// The values that the calls of the pool take and answer.
+
+// Tasks are numbered 1 to TASKS; the queue and the list of woken tasks have as many places.
+pub const TASKS: usize = 32;
+
+// The greatest length of a pool, in bytes.
+pub const LONGEST_POOL: usize = 65536;
+
+// The codes of the µITRON 4.0 specification.
+pub const E_SYS: i32 = -5;
+
+pub const E_PAR: i32 = -17;
+
+pub const E_ID: i32 = -18;
+
+pub const E_CTX: i32 = -25;
+
+pub const E_OBJ: i32 = -41;
+
+pub const E_RLWAI: i32 = -49;
+
+pub const E_TMOUT: i32 = -50;
+
+// The offset of a block, as handed to tasks: the place of its header plus 8.
+pub struct BlockOffset(pub usize);
+
+// The place of a header in the pool.
+pub struct HeaderPlace(pub usize);
+
+// A waiting request: the task, the size as asked, and the ticks left (FOREVER: no limit). All zeros: an unused place.
+pub struct Entry {
+    pub task: u32,
+    pub size: u32,
+    pub left: u32,
+}
+
+// The ticks left of a wait without a limit.
+pub const FOREVER: u32 = 4294967295;
+
+// The waiting queue: its entries in order, zeros in the places past the last.
+pub struct Queue {
+    pub entries: [Entry; TASKS],
+}
+
+// A task whose wait ended: with code 0 and the offset of its block, or with another code and offset 0. All zeros: an unused place.
+pub struct Woken {
+    pub task: u32,
+    pub code: i32,
+    pub offset: BlockOffset,
+}
+
+// What a call answers, with the queue that it leaves.
+pub struct Answer {
+    pub code: i32,
+    pub offset: BlockOffset,
+    pub woken: [Woken; TASKS],
+    pub queue: Queue,
+}
+
+// What inquire answers: the sum and the greatest of the free runs, each less its header, and the head's task or 0.
+pub struct Totals {
+    pub code: i32,
+    pub sum: usize,
+    pub greatest: usize,
+    pub head: u32,
+}
