@@ -183,7 +183,7 @@ module _ (K : Rules) {P : Type 0} (E : Store P) where
 
   -- a request is granted at once: nobody who waits is served before it, and a run fits
   abbrev pub goes : Entry → State P → Bool
-  goes e s = not (blocked (K .rank) e (s .queue)) && fitting e (s .pool)
+  goes e s = not (blocked (K .rank) (K .rank e) (s .queue)) && fitting e (s .pool)
 
   -- the offset of a live block
   abbrev pub isLive : BlockOffset → P → Bool

@@ -28,10 +28,10 @@ module _ (rank : Entry → ℕ) where
   insert e [] = e ∷ []
   insert e (x ∷ q) = cond (leb (rank x) (rank e)) (x ∷ insert e q) (e ∷ x ∷ q)
 
-  -- somebody waits who is served before a newcomer; in a queue in order that is its head, if anyone
-  unfoldable pub blocked : Entry → List Entry → Bool
-  blocked e [] = false
-  blocked e (x ∷ q) = leb (rank x) (rank e)
+  -- somebody waits who is served before a newcomer of rank r; in a queue in order that is its head, if anyone
+  unfoldable pub blocked : ℕ → List Entry → Bool
+  blocked r [] = false
+  blocked r (x ∷ q) = leb (rank x) r
 
   -- x stands before each of the others: another task, and no higher rank
   unfoldable pub leads : Entry → List Entry → Bool

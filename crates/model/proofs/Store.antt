@@ -1,0 +1,53 @@
+-- What the theorems ask of a store, and that the block list meets it. Assumes nothing.
+use Prim.Native.Nat.{ℕ, _%_, _≤_}
+use mathlib.Core.Path.{_≡_, refl, _∙_}
+use mathlib.Core.Bool.{Bool, true, false, _&&_}
+use mathlib.Core.List.{List}
+use lib.Dec.{eqb}
+use borrow.Author.Tests.{eqb-true, eq-eqb}
+use Rattle.model.specs.Blocks.{Block, total, tiled, granted, freed}
+use Rattle.model.specs.Rules.{Rules}
+use Rattle.model.specs.Calls.{HeaderPlace, Store, blocks}
+use Rattle.model.proofs.Tests.{and-l, and-r, and-i}
+use Rattle.model.proofs.Blocks.{granted-fits, granted-total, granted-tiled, freed-total, freed-tiled, granted-live, granted-freed}
+
+pub record StoreLaws (K : Rules) {P : Type 0} (E : Store P) : Type 0 where
+  -- a grant makes no run
+  pub grant-fits : (n t m : ℕ) (p : P) → E .fits m p ≡ false → E .fits m (E .grant n t p) ≡ false
+  pub grant-sound : (n t : ℕ) (p : P) → n % 4 ≡ 0 → 12 ≤ n → 1 ≤ t → t ≤ K .tasks → E .sound p ≡ true → E .sound (E .grant n t p) ≡ true
+  pub free-sound : (a : HeaderPlace) (p : P) → E .sound p ≡ true → E .sound (E .free a p) ≡ true
+  -- a granted block is live, and its release undoes the grant
+  pub grant-live : (n t : ℕ) (p : P) → 1 ≤ t → E .sound p ≡ true → E .fits n p ≡ true → E .live (E .place n p) (E .grant n t p) ≡ true
+  pub grant-free : (n t : ℕ) (p : P) → 1 ≤ t → E .sound p ≡ true → E .fits n p ≡ true → E .free (E .place n p) (E .grant n t p) ≡ p
+
+-- ---- the block list
+
+module _ (K : Rules) where
+  -- a sound block list, opened
+  pub record Tiling (bs : List Block) : Type 0 where
+    pub sums : total bs ≡ K .long
+    pub tiling : tiled (K .tasks) false bs ≡ true
+
+  pub open-blocks : (bs : List Block) → blocks K .sound bs ≡ true → Tiling bs
+  open-blocks bs h =
+      record {
+        sums = eqb-true (total bs) (K .long) (and-l (eqb (total bs) (K .long)) (tiled (K .tasks) false bs) h);
+        tiling = and-r (eqb (total bs) (K .long)) (tiled (K .tasks) false bs) h;
+      }
+
+  pub close-blocks : (bs : List Block) → Tiling bs → blocks K .sound bs ≡ true
+  close-blocks bs o = and-i (eqb (total bs) (K .long)) _ (eq-eqb (total bs) (K .long) (o .sums)) (o .tiling)
+
+  pub block-laws : StoreLaws K (blocks K)
+  block-laws =
+      record {
+        grant-fits = granted-fits;
+        grant-sound = λ n t bs n4 n12 t1 tk h.
+            let o = open-blocks bs h in
+            close-blocks (granted n t bs) (record { sums = granted-total n t bs ∙ o .sums; tiling = granted-tiled (K .tasks) n t n4 n12 t1 tk false bs (o .tiling) });
+        free-sound = λ a bs h.
+            let o = open-blocks bs h in
+            close-blocks (freed (a .0) bs) (record { sums = freed-total (a .0) bs ∙ o .sums; tiling = freed-tiled (K .tasks) false (a .0) bs (o .tiling) });
+        grant-live = λ n t bs t1 h f. granted-live (K .tasks) n t t1 false bs (open-blocks bs h .tiling) f;
+        grant-free = λ n t bs t1 h f. granted-freed (K .tasks) n t t1 false bs (open-blocks bs h .tiling) f;
+      }
