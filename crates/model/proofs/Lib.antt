@@ -1,8 +1,12 @@
 pub mod Tests
 pub mod Blocks
 pub mod Waiting
+pub mod Bytes
+pub mod Places
 pub mod Store
 pub mod Serving
 pub mod Soundness
 pub mod NoTrace
+pub mod Runs
+pub mod Pool
 pub mod Examples

@@ -28,7 +28,7 @@ pub record Typed (p : Stored) : Type 0 where
   pub places : length (p .queue .entries) ≡ most-tasks
 
 -- the block list and the entries
-abbrev pub view : Stored → State (List Block)
+unfoldable pub view : Stored → State (List Block)
 view p = state (blocksOf (p .bytes)) (entriesOf (p .queue))
 
 -- After a call, headers of the old block list are erased and those of the new one written: new headers stand in their places, swallowed ones are
@@ -36,20 +36,24 @@ view p = state (blocksOf (p .bytes)) (entriesOf (p .queue))
 abbrev pub settled : Stored → Reply (State (List Block)) → Reply Stored
 settled p r = record { said = r .said; state = stored (render (r .state .pool) (erase (blocksOf (p .bytes)) (p .bytes))) (queueOf (r .state .queue)) }
 
+module _ (K : Rules) where
+  unfoldable pub soundBy : Stored → Bool
+  soundBy p = sound K (blocks K) (view p) && tidy (p .queue .entries)
+
+  unfoldable pub performBy : Call → Stored → Reply Stored
+  performBy c p = decide p (verdict K (blocks K) (soundBy p) c (view p)) (settled p (act K (blocks K) c (view p)))
+
 -- the rules come from the pool's length
 module _ (R : ℕ → Rules) where
   abbrev pub rulesOf : Stored → Rules
   rulesOf p = R (length (p .bytes))
 
-  unfoldable pub isSound : Stored → Bool
-  isSound p = sound (rulesOf p) (blocks (rulesOf p)) (view p) && tidy (p .queue .entries)
+  abbrev pub isSound : Stored → Bool
+  isSound p = soundBy (rulesOf p) p
 
   -- any call but create
-  unfoldable pub perform : Call → Stored → Reply Stored
-  perform c p =
-      decide p
-      (verdict (rulesOf p) (blocks (rulesOf p)) (isSound p) c (view p))
-      (settled p (act (rulesOf p) (blocks (rulesOf p)) c (view p)))
+  abbrev pub perform : Call → Stored → Reply Stored
+  perform c p = performBy (rulesOf p) c p
 
   -- create: one free run of all bytes at 0, every other byte kept, and an empty queue
   unfoldable pub create : List ℕ → Reply Stored

@@ -1,0 +1,291 @@
+-- The calls on bytes and places are the calls on block list and entries; demand 3 brought to bytes and places. Assumes nothing.
+use Prim.Native.Nat.{ℕ, _+_, _-_, _≤_, _<_}
+use mathlib.Core.Path.{_≡_, refl, sym, ap, _∙_}
+use mathlib.Core.Bool.{Bool, true, false, not, cond, _&&_}
+use mathlib.Core.List.{List, [], _∷_, _++_}
+use mathlib.Core.Option.{Option, none, some}
+use native.Mathlib.Omega.{arith}
+use lib.ListN.{length}
+use lib.IntN.{ℤ, pos, negsuc}
+use Rattle.model.specs.Limits.{most-tasks, e-ok, waiting, e-sys, e-rlwai}
+use Rattle.model.specs.Blocks.{Block, total, tiled, granted}
+use Rattle.model.specs.Waiting.{Entry, waits, remove}
+use Rattle.model.specs.Rules.{Rules, Laws, okTask, queued}
+use Rattle.model.specs.Calls.{BlockOffset, Woken, noOffset, Request, Call, get, release, cancel, tick, inquire, Said, Reply, says, refuse, decide, entryOf, leaves, blocks, Store, State, state, fitting, given, serve, sound, goes, tests, verdict, grants, joins, act, step}
+use Rattle.model.specs.Runs.{Turn, after, run, gets, refusals, winners, Others, NoTrace, undo}
+use Rattle.model.specs.Bytes.{blocksOf, render, erase}
+use Rattle.model.specs.Places.{Queue, noEntry, pad, tidy, entriesOf, queueOf}
+use Rattle.model.specs.Pool.{Stored, stored, Typed, view, settled, soundBy, performBy, rulesOf, isSound, perform}
+use Rattle.model.proofs.Tests.{by, and-l, and-r, and-i}
+use Rattle.model.proofs.Waiting.{open-queued, entry-asked, remove-queued, queued-length}
+use Rattle.model.proofs.Bytes.{Finer, finer-refl, finer-trans, granted-finer, render-length, erase-length, render-erase, render-render, blocks-render, render-blocks}
+use Rattle.model.proofs.Places.{queued-live, used-pad, tidy-pad, queue-entries}
+use Rattle.model.proofs.Store.{Tiling, open-blocks, block-laws}
+use Rattle.model.proofs.Soundness.{Sound, open-sound, passed, passed-asked, step-refused, step-done, verdict-sound, act-sound, step-sound}
+use Rattle.model.proofs.NoTrace.{Outcome, refusal, granting, joining, outcome, no-trace, get-release}
+use Rattle.model.proofs.Runs.{runs-alike, ends-alike}
+
+-- ---- a state as it is kept, given the rules
+
+module _ (K : Rules) where
+  pub open-stored : (p : Stored) → soundBy K p ≡ true → (sound K (blocks K) (view p) ≡ true) × (tidy (p .queue .entries) ≡ true)
+  unfolding soundBy
+  open-stored p h =
+      let a = sound K (blocks K) (view p) in
+      let b = tidy (p .queue .entries) in
+      (and-l a b h, and-r a b h)
+
+  pub close-stored : (p : Stored) → sound K (blocks K) (view p) ≡ true → tidy (p .queue .entries) ≡ true → soundBy K p ≡ true
+  unfolding soundBy
+  close-stored p h t = and-i (sound K (blocks K) (view p)) _ h t
+
+  pub by-unsound : (c : Call) (p : Stored) → soundBy K p ≡ false → performBy K c p ≡ refuse p e-sys
+  unfolding performBy
+  by-unsound c p h = rw h
+
+  pub by-refused : (c : Call) (p : Stored) (k : ℤ) → soundBy K p ≡ true → tests K (blocks K) c (view p) ≡ some k → performBy K c p ≡ refuse p k
+  unfolding performBy
+  by-refused c p k h e = rw (h, e)
+
+  pub by-done : (c : Call) (p : Stored) → soundBy K p ≡ true → tests K (blocks K) c (view p) ≡ none → performBy K c p ≡ settled p (act K (blocks K) c (view p))
+  unfolding performBy
+  by-done c p h e = rw (h, e)
+
+-- ---- grants add headers and take none away
+
+module _ (K : Rules) (L : Laws K) where
+  serve-finer : (bs : List Block) (q : List Entry) → queued K q ≡ true → Finer bs (serve K (blocks K) bs q .state .pool)
+  unfolding serve
+  serve-finer bs [] o = finer-refl bs
+  serve-finer bs (e ∷ q) o =
+      let u = open-queued K e q o in
+      let a = entry-asked K e (u .entry) in
+      by (fitting K (blocks K) e bs)
+      (λ f. rw f (finer-trans bs (given K (blocks K) e bs) (serve K (blocks K) (given K (blocks K) e bs) q .state .pool)
+      (granted-finer (K .need (e .size)) (e .task) (omega (arith, L .need-least e (a .fair))) bs) (serve-finer (given K (blocks K) e bs) q (u .rest))))
+      (λ f. rw f (finer-refl bs))
+
+  get-finer : (r : Request) (s : State (List Block)) → sound K (blocks K) s ≡ true → Finer (s .pool) (step K (blocks K) (get r) s .state .pool)
+  get-finer r s h = go (outcome K (blocks K) r s h)
+    where
+      go : Outcome K (blocks K) r s → Finer (s .pool) (step K (blocks K) (get r) s .state .pool)
+      go (refusal k t e) = rw e (finer-refl (s .pool))
+      go (joining n g e) = rw e (finer-refl (s .pool))
+      go (granting n g e) =
+          let a = passed-asked K (blocks K) r s (passed K (blocks K) r s n) in
+          rw e (granted-finer (K .need (r .size)) (r .task) (omega (arith, L .need-least (entryOf r) (a .fair))) (s .pool))
+
+  cancel-finer : (t : ℕ) (s : State (List Block)) → sound K (blocks K) s ≡ true → Finer (s .pool) (step K (blocks K) (cancel t) s .state .pool)
+  unfolding act
+  cancel-finer t s h = go (tests K (blocks K) (cancel t) s) refl
+    where
+      go : (v : Option ℤ) → tests K (blocks K) (cancel t) s ≡ v → Finer (s .pool) (step K (blocks K) (cancel t) s .state .pool)
+      go (some k) e = rw (step-refused K (blocks K) (cancel t) s k (verdict-sound K (blocks K) (cancel t) s h ∙ e)) (finer-refl (s .pool))
+      go none e =
+          rw (step-done K (blocks K) (cancel t) s (verdict-sound K (blocks K) (cancel t) s h ∙ e))
+          (serve-finer (s .pool) (remove t (s .queue)) (remove-queued K t (s .queue) (open-sound K (blocks K) s h .order)))
+
+-- only gets
+unfoldable Gets : List Call → Type 0
+Gets [] = Unit {0}
+Gets (get r ∷ cs) = Gets cs
+Gets (release o ∷ cs) = ⊥
+Gets (cancel t ∷ cs) = ⊥
+Gets (tick ∷ cs) = ⊥
+Gets (inquire ∷ cs) = ⊥
+
+gets-are : (rs : List Request) → Gets (gets rs)
+unfolding Gets gets
+gets-are [] = tt
+gets-are (r ∷ rs) = gets-are rs
+
+module _ (R : ℕ → Rules) (law : (n : ℕ) → Laws (R n)) (long-is : (n : ℕ) → R n .long ≡ n) where
+  module _ (n : ℕ) where
+    abbrev K : Rules
+    K = R n
+
+    abbrev B : Store (List Block)
+    B = blocks (R n)
+
+    -- ---- a sound state, settled into bytes and places
+
+    module _ (p : Stored) (r : Reply (State (List Block))) (len : length (p .bytes) ≡ n) (h : sound K B (r .state) ≡ true) where
+      abbrev news : List Block
+      news = r .state .pool
+
+      ok : Sound K B (r .state)
+      ok = open-sound K B (r .state) h
+
+      erased : length (erase (blocksOf (p .bytes)) (p .bytes)) ≡ n
+      erased = erase-length (blocksOf (p .bytes)) (p .bytes) ∙ len
+
+      settled-length : length (settled p r .state .bytes) ≡ n
+      settled-length = render-length news (erase (blocksOf (p .bytes)) (p .bytes)) ∙ erased
+
+      settled-blocks : blocksOf (settled p r .state .bytes) ≡ news
+      settled-blocks =
+          let t = open-blocks K news (ok .pool) in
+          blocks-render (K .tasks) (omega (arith, law n .tasks-most)) false news (erase (blocksOf (p .bytes)) (p .bytes)) (t .tiling)
+          (t .sums ∙ long-is n ∙ sym erased) (rw erased (omega (arith, law n .long-most (ok .valid), long-is n)))
+
+      settled-entries : entriesOf (settled p r .state .queue) ≡ r .state .queue
+      settled-entries = used-pad most-tasks (r .state .queue) (queued-live K (r .state .queue) (ok .order)) (omega (arith, queued-length K (r .state .queue) (ok .order), law n .tasks-most))
+
+      pub settled-view : view (settled p r .state) ≡ r .state
+      unfolding view
+      settled-view = λ i. state (settled-blocks i) (settled-entries i)
+
+      pub settled-sound : isSound R (settled p r .state) ≡ true
+      settled-sound = rw settled-length (close-stored K (settled p r .state) (rw settled-view h) (tidy-pad most-tasks (r .state .queue) (queued-live K (r .state .queue) (ok .order))))
+
+    -- ---- bytes and places that show a state
+
+    record Shown (p : Stored) (s : State (List Block)) : Type 0 where
+      long : length (p .bytes) ≡ n
+      good : isSound R p ≡ true
+      is : view p ≡ s
+
+    shown-sound : (p : Stored) (s : State (List Block)) → Shown p s → sound K B s ≡ true
+    shown-sound p s o = rw (o .is) at (open-stored K p (rw (o .long) at (o .good)) .0)
+
+    perform-refused : (c : Call) (p : Stored) (s : State (List Block)) (k : ℤ) → Shown p s → tests K B c s ≡ some k → perform R c p ≡ refuse p k
+    perform-refused c p s k o e = rw (o .long) (by-refused K c p k (rw (o .long) at (o .good)) (rw (o .is) e))
+
+    perform-done : (c : Call) (p : Stored) (s : State (List Block)) → Shown p s → tests K B c s ≡ none → perform R c p ≡ settled p (act K B c s)
+    perform-done c p s o e = rw (o .long) (by-done K c p (rw (o .long) at (o .good)) (rw (o .is) e) ∙ ap (λ (z : State (List Block)). settled p (act K B c z)) (o .is))
+
+    record Next (c : Call) (p : Stored) (s : State (List Block)) : Type 0 where
+      said : perform R c p .said ≡ step K B c s .said
+      shown : Shown (perform R c p .state) (step K B c s .state)
+
+    next : (c : Call) (p : Stored) (s : State (List Block)) → Shown p s → Next c p s
+    next c p s o = go (tests K B c s) refl
+      where
+        h : sound K B s ≡ true
+        h = shown-sound p s o
+
+        go : (v : Option ℤ) → tests K B c s ≡ v → Next c p s
+        go (some k) e =
+            let g = perform-refused c p s k o e in
+            let u = step-refused K B c s k (verdict-sound K B c s h ∙ e) in
+            record { said = rw (g, u); shown = rw (g, u) o }
+        go none e =
+            let g = perform-done c p s o e in
+            let u = step-done K B c s (verdict-sound K B c s h ∙ e) in
+            let a = act K B c s in
+            let k = act-sound K B (law n) (block-laws K) c s h e in
+            record { said = rw (g, u); shown = rw (g, u) (record { long = settled-length p a (o .long) k; good = settled-sound p a (o .long) k; is = settled-view p a (o .long) k }) }
+
+    -- ---- and whose bytes are b with the state's headers written
+
+    record Shows (b : List ℕ) (p : Stored) (s : State (List Block)) : Type 0 where
+      shown : Shown p s
+      bytes : p .bytes ≡ render (s .pool) b
+      queue : p .queue ≡ queueOf (s .queue)
+
+    fine-next : (b : List ℕ) (c : Call) (p : Stored) (s : State (List Block)) → Finer (s .pool) (step K B c s .state .pool) → Shows b p s → Shows b (perform R c p .state) (step K B c s .state)
+    unfolding view
+    fine-next b c p s fine o = go (tests K B c s) refl
+      where
+        h : sound K B s ≡ true
+        h = shown-sound p s (o .shown)
+
+        go : (v : Option ℤ) → tests K B c s ≡ v → Shows b (perform R c p .state) (step K B c s .state)
+        go (some k) e = rw (perform-refused c p s k (o .shown) e, step-refused K B c s k (verdict-sound K B c s h ∙ e)) o
+        go none e =
+            let g = perform-done c p s (o .shown) e in
+            let u = step-done K B c s (verdict-sound K B c s h ∙ e) in
+            let news = act K B c s .state .pool in
+            let olds : blocksOf (p .bytes) ≡ s .pool = ap (λ (x : State (List Block)). x .pool) (o .shown .is) in
+            let f : Finer (s .pool) news = rw u at fine in
+            record {
+              shown = next c p s (o .shown) .shown;
+              bytes = rw (g, u) (rw olds (render-erase (s .pool) news (p .bytes) f ∙ ap (λ (l : List ℕ). render news l) (o .bytes) ∙ render-render (s .pool) news b f));
+              queue = rw (g, u);
+            }
+
+    -- what shows the same is the same
+    shows-one : (b : List ℕ) (p q : Stored) (s z : State (List Block)) → s ≡ z → Shows b p s → Shows b q z → p ≡ q
+    shows-one b p q s z e o k =
+        let eb : p .bytes ≡ q .bytes = o .bytes ∙ ap (λ (x : State (List Block)). render (x .pool) b) e ∙ sym (k .bytes) in
+        let eq : p .queue ≡ q .queue = o .queue ∙ ap (λ (x : State (List Block)). queueOf (x .queue)) e ∙ sym (k .queue) in
+        λ i. stored (eb i) (eq i)
+
+    gets-next : (b : List ℕ) (c : Call) (cs : List Call) (p : Stored) (s : State (List Block)) → Shows b p s × Gets (c ∷ cs)
+        → (perform R c p .said ≡ step K B c s .said) × (Shows b (perform R c p .state) (step K B c s .state) × Gets cs)
+    unfolding Gets
+    gets-next b (get r) cs p s o =
+        (next (get r) p s (o .0 .shown) .said, (fine-next b (get r) p s (get-finer K (law n) r s (shown-sound p s (o .0 .shown))) (o .0), o .1))
+    gets-next b (release f) cs p s o = absurd (o .1)
+    gets-next b (cancel t) cs p s o = absurd (o .1)
+    gets-next b tick cs p s o = absurd (o .1)
+    gets-next b inquire cs p s o = absurd (o .1)
+
+  -- ---- runs
+
+  own : (p : Stored) → isSound R p ≡ true → Shown (length (p .bytes)) p (view p)
+  own p h = record { long = refl; good = h; is = refl }
+
+  shows-own : (p : Stored) → isSound R p ≡ true → Typed p → Shows (length (p .bytes)) (p .bytes) p (view p)
+  unfolding view
+  shows-own p h t =
+      let n = length (p .bytes) in
+      let a = open-stored (R n) p h in
+      let k = open-blocks (R n) (blocksOf (p .bytes)) (open-sound (R n) (blocks (R n)) (view p) (a .0) .pool) in
+      record {
+        shown = own p h;
+        bytes = sym (render-blocks (R n .tasks) (p .bytes) (k .tiling) (k .sums ∙ long-is n) (t .byte));
+        queue = sym (queue-entries (p .queue) (t .places) (a .1));
+      }
+
+  -- a run on bytes and places is told what the run on block list and entries is told
+  pub run-view : (p : Stored) (cs : List Call) → isSound R p ≡ true → run (perform R) p cs ≡ run (step (rulesOf R p) (blocks (rulesOf R p))) (view p) cs
+  run-view p cs h =
+      let n = length (p .bytes) in
+      runs-alike (perform R) (step (R n) (blocks (R n))) (λ _. Shown n) (λ c cs p s o. let u = next n c p s o in (u .said, u .shown)) cs p (view p) (own p h)
+
+  -- every run leaves a sound state sound
+  pub after-sound : (p : Stored) (cs : List Call) → isSound R p ≡ true → isSound R (after (perform R) p cs) ≡ true
+  after-sound p cs h =
+      let n = length (p .bytes) in
+      ends-alike (perform R) (step (R n) (blocks (R n))) (λ _. Shown n) (λ c cs p s o. let u = next n c p s o in (u .said, u .shown)) cs p (view p) (own p h) .good
+
+  pub perform-sound : (c : Call) (p : Stored) → isSound R p ≡ true → isSound R (perform R c p .state) ≡ true
+  perform-sound c p h = next (length (p .bytes)) c p (view p) (own p h) .shown .good
+
+  -- ---- demand 3
+
+  pub perform-no-trace : (p : Stored) (f : Request) (rs : List Request) → isSound R p ≡ true → Typed p → perform R (get f) p .said .code ≡ waiting
+      → Others (rulesOf R p .rank) (f .task) (rulesOf R p .rank (entryOf f)) rs → NoTrace (perform R) p f rs
+  perform-no-trace p f rs h t z os =
+      let n = length (p .bytes) in
+      let K = R n in
+      let B = blocks K in
+      let b = p .bytes in
+      let s = view p in
+      let o = shows-own p h t in
+      let u = next n (get f) p s (own p h) in
+      let hs = shown-sound n p s (own p h) in
+      let m = no-trace K B (law n) (block-laws K) s f rs hs (ap (λ (x : Said). x .code) (sym (u .said)) ∙ z) os in
+      let p₁ = perform R (get f) p .state in
+      let s₁ = step K B (get f) s .state in
+      let o₁ = fine-next n b (get f) p s (get-finer K (law n) f s hs) o in
+      let rel : List Call → Stored → State (List Block) → Type 0 = λ cs x y. Shows n b x y × Gets cs in
+      let e₁ = ends-alike (perform R) (step K B) rel (gets-next n b) (gets rs) p₁ s₁ (o₁, gets-are rs) .0 in
+      let e₂ = ends-alike (perform R) (step K B) rel (gets-next n b) (gets rs) p s (o, gets-are rs) .0 in
+      let r₁ = runs-alike (perform R) (step K B) rel (gets-next n b) (gets rs) p₁ s₁ (o₁, gets-are rs) in
+      let r₂ = runs-alike (perform R) (step K B) rel (gets-next n b) (gets rs) p s (o, gets-are rs) in
+      let pe = after (perform R) p₁ (gets rs) in
+      let se = after (step K B) s₁ (gets rs) in
+      let c = cancel (f .task) in
+      let last = fine-next n b c pe se (cancel-finer K (law n) (f .task) se (shown-sound n pe se (e₁ .shown))) e₁ in
+      let said = next n c pe se (e₁ .shown) .said ∙ ap (λ (a : Reply (State (List Block))). a .said) (m .cancelled)
+      ∙ ap (λ (l : List Turn). says e-ok noOffset (leaves e-rlwai (f .task) ∷ winners l)) (sym r₂) in
+      let same = ap (λ (a : Reply (State (List Block))). a .state) (m .cancelled) in
+      let state = shows-one n b (perform R c pe .state) (after (perform R) p (gets rs)) (step K B c se .state) (after (step K B) s (gets rs)) same last e₂ in
+      record { cancelled = λ i. record { said = said i; state = state i }; refused = ap refusals r₁ ∙ m .refused ∙ sym (ap refusals r₂) }
+
+  pub record Undone (p : Stored) (a : Reply Stored) : Type 0 where
+    pub said : a .said ≡ says e-ok noOffset []
+    pub blocks : blocksOf (a .state .bytes) ≡ blocksOf (p .bytes)
+    pub queue : a .state .queue ≡ p .queue
