@@ -6,7 +6,10 @@ pub mod Places
 pub mod Store
 pub mod Serving
 pub mod Soundness
+pub mod Refusals
 pub mod NoTrace
 pub mod Runs
 pub mod Pool
+pub mod Base
+pub mod Theorems
 pub mod Examples

@@ -12,7 +12,8 @@ use Rattle.model.specs.Limits.{e-ok, waiting, e-sys, e-par, e-id, e-ctx,
 use Rattle.model.specs.Waiting.{Entry, waits, remove, insert, blocked}
 use Rattle.model.specs.Rules.{Rules, Laws, okTask}
 use Rattle.model.specs.Calls.{BlockOffset, HeaderPlace, Woken, noOffset, offsetOf, placeOf, Request, Call, get, release, cancel, tick, inquire, Said, Reply, says, refuse, deny, okLimit, isPoll, entryOf, leaves, Store, State, state, Served, wake, fitting, offset, given, wakes, serve, headStuck, sound, goes, isLive, tests, verdict, grants, joins, act, step}
-use Rattle.model.specs.Runs.{Turn, after, run, gets, refusedBy, refusals, isZero, winners, Absent, Others, NoTrace, undo}
+use Rattle.model.specs.Runs.{Turn, after, run, gets, refusedBy, refusals, isZero, winners, Absent, Others, Ranked}
+use Rattle.model.specs.Demands.{NoTrace, undo}
 use Rattle.model.proofs.Tests.{by, clash, and-l, and-r, or-f-l, or-f-r, or-f}
 use Rattle.model.proofs.Waiting.{waits-other, remove-insert-same, remove-insert, waits-insert, waits-insert-same, blocked-insert, blocked-more}
 use Rattle.model.proofs.Store.{StoreLaws}
@@ -250,12 +251,12 @@ module _ (K : Rules) {P : Type 0} (E : Store P) where
           clash (goes K E (entryOf r) s₁) h (rw b)
       next rk ab al (joining n h g₁) = step-joining rk ab g₁ (outcome r s₂ (o .without-sound)) (sym al ∙ n)
 
-    induct : (t k : ℕ) → okTask K t ≡ true → (rs : List Request) (s₁ s₂ : State P) (w : List Woken) → Twin t k s₁ s₂ w → Others (K .rank) t k rs → Fresh rs w → Same t s₁ s₂ w rs
-    unfolding Others Fresh
-    induct t k ot [] s₁ s₂ w o os fr = ends t k s₁ s₂ w ot o
-    induct t k ot (r ∷ rs) s₁ s₂ w o os fr =
+    induct : (t k : ℕ) → okTask K t ≡ true → (rs : List Request) (s₁ s₂ : State P) (w : List Woken) → Twin t k s₁ s₂ w → Others t rs → Ranked (K .rank) k rs → Fresh rs w → Same t s₁ s₂ w rs
+    unfolding Others Ranked Fresh
+    induct t k ot [] s₁ s₂ w o os rk fr = ends t k s₁ s₂ w ot o
+    induct t k ot (r ∷ rs) s₁ s₂ w o os rk fr =
         same-cons t s₁ s₂ w r rs
-        (next t k s₁ s₂ w r rs o (os .0) (fr .1) (λ z₁ z₂ v tw f. induct t k ot rs z₁ z₂ v tw (os .4) f) (os .2) (os .3)
+        (next t k s₁ s₂ w r rs o (os .0) (fr .1) (λ z₁ z₂ v tw f. induct t k ot rs z₁ z₂ v tw (os .3) (rk .1) f) (rk .0) (os .2)
         (tests-alike t k s₁ s₂ w r o (os .0) (not-poll (r .limit) (os .1)) (fr .0)) (outcome r s₁ (o .with-sound)))
 
     first-twin : (s : State P) (f : Request) → sound K E s ≡ true → Passed K E f s → step K E (get f) s ≡ joins K E (entryOf f) s
@@ -274,13 +275,13 @@ module _ (K : Rules) {P : Type 0} (E : Store P) where
         }
 
     pub no-trace : (s : State P) (f : Request) (rs : List Request) → sound K E s ≡ true → step K E (get f) s .said .code ≡ waiting
-        → Others (K .rank) (f .task) (K .rank (entryOf f)) rs → NoTrace (step K E) s f rs
-    no-trace s f rs h z os = go (outcome f s h)
+        → Others (f .task) rs → Ranked (K .rank) (K .rank (entryOf f)) rs → NoTrace (step K E) s f rs
+    no-trace s f rs h z os rk = go (outcome f s h)
       where
         go : Outcome f s → NoTrace (step K E) s f rs
         go (refusal k t e) = refused-not f s k 1 t e z
         go (granting n g e) = code-not (step K E (get f) s) (grants K E (entryOf f) s) waiting e z (λ q. let z : _≡_ {A = ℕ} 0 1 = cc in omega arith)
         go (joining n g e) =
             let q = passed K E f s n in
-            let r = induct (f .task) (K .rank (entryOf f)) (q .task) rs (joins K E (entryOf f) s .state) s [] (first-twin s f h q e) os (fresh-nil rs) in
+            let r = induct (f .task) (K .rank (entryOf f)) (q .task) rs (joins K E (entryOf f) s .state) s [] (first-twin s f h q e) os rk (fresh-nil rs) in
             record { cancelled = rw e (r .cancelled); refused = rw e (r .refused) }

@@ -2,27 +2,33 @@
 use Prim.Native.Nat.{ℕ, _+_, _-_, _≤_, _<_}
 use mathlib.Core.Path.{_≡_, refl, sym, ap, _∙_}
 use mathlib.Core.Bool.{Bool, true, false, not, cond, _&&_}
+use mathlib.Core.Logic.{_↔_}
 use mathlib.Core.List.{List, [], _∷_, _++_}
 use mathlib.Core.Option.{Option, none, some}
 use native.Mathlib.Omega.{arith}
+use native.Mathlib.Nat.{add-zero}
 use lib.ListN.{length}
 use lib.IntN.{ℤ, pos, negsuc}
 use Rattle.model.specs.Limits.{most-tasks, e-ok, waiting, e-sys, e-rlwai}
-use Rattle.model.specs.Blocks.{Block, total, tiled, granted}
+use Rattle.model.specs.Blocks.{Block, block, total, tiled, granted}
 use Rattle.model.specs.Waiting.{Entry, waits, remove}
 use Rattle.model.specs.Rules.{Rules, Laws, okTask, queued}
-use Rattle.model.specs.Calls.{BlockOffset, Woken, noOffset, Request, Call, get, release, cancel, tick, inquire, Said, Reply, says, refuse, decide, entryOf, leaves, blocks, Store, State, state, fitting, given, serve, sound, goes, tests, verdict, grants, joins, act, step}
-use Rattle.model.specs.Runs.{Turn, after, run, gets, refusals, winners, Others, NoTrace, undo}
+use Rattle.model.specs.Calls.{BlockOffset, Woken, noOffset, Request, Call, get, release, cancel, tick, inquire, Said, Reply, says, refuse, decide, entryOf, leaves, blocks, Store, State, state, fitting, given, serve, headStuck, sound, goes, tests, verdict, grants, joins, act, step}
+use Rattle.model.specs.Refusals.{Refused}
+use Rattle.model.specs.Runs.{Turn, after, run, gets, refusedBy, refusals, winners, Others, Ranked}
+use Rattle.model.specs.Demands.{Seen, NoTrace, undo, Undone}
 use Rattle.model.specs.Bytes.{blocksOf, render, erase}
-use Rattle.model.specs.Places.{Queue, noEntry, pad, tidy, entriesOf, queueOf}
-use Rattle.model.specs.Pool.{Stored, stored, Typed, view, settled, soundBy, performBy, rulesOf, isSound, perform}
+use Rattle.model.specs.Places.{Queue, noEntry, pad, used, allUnused, tidy, entriesOf, queueOf}
+use Rattle.model.specs.Pool.{Stored, stored, Typed, view, settled, soundBy, performBy, rulesOf, isSound, perform, create}
 use Rattle.model.proofs.Tests.{by, and-l, and-r, and-i}
+use Rattle.model.proofs.Blocks.{untile}
 use Rattle.model.proofs.Waiting.{open-queued, entry-asked, remove-queued, queued-length}
 use Rattle.model.proofs.Bytes.{Finer, finer-refl, finer-trans, granted-finer, render-length, erase-length, render-erase, render-render, blocks-render, render-blocks}
-use Rattle.model.proofs.Places.{queued-live, used-pad, tidy-pad, queue-entries}
-use Rattle.model.proofs.Store.{Tiling, open-blocks, block-laws}
-use Rattle.model.proofs.Soundness.{Sound, open-sound, passed, passed-asked, step-refused, step-done, verdict-sound, act-sound, step-sound}
-use Rattle.model.proofs.NoTrace.{Outcome, refusal, granting, joining, outcome, no-trace, get-release}
+use Rattle.model.proofs.Places.{queued-live, pad-length, used-pad, tidy-pad, queue-entries}
+use Rattle.model.proofs.Store.{Tiling, open-blocks, close-blocks, block-laws}
+use Rattle.model.proofs.Soundness.{no-some, Sound, open-sound, close-sound, passed, passed-asked, step-refused, step-done, verdict-sound, act-sound, step-sound, woken-length}
+use Rattle.model.proofs.Refusals.{verdict-refused, refused-verdict, act-code}
+use Rattle.model.proofs.NoTrace.{tests-negative, negative-code, Outcome, refusal, granting, joining, outcome, no-trace, get-release}
 use Rattle.model.proofs.Runs.{runs-alike, ends-alike}
 
 -- ---- a state as it is kept, given the rules
@@ -50,6 +56,59 @@ module _ (K : Rules) where
   pub by-done : (c : Call) (p : Stored) → soundBy K p ≡ true → tests K (blocks K) c (view p) ≡ none → performBy K c p ≡ settled p (act K (blocks K) c (view p))
   unfolding performBy
   by-done c p h e = rw (h, e)
+
+  pub places-by : (c : Call) (p : Stored) → length (p .queue .entries) ≡ most-tasks → length (performBy K c p .state .queue .entries) ≡ most-tasks
+  unfolding performBy
+  places-by c p e = go (verdict K (blocks K) (soundBy K p) c (view p))
+    where
+      go : (v : Option ℤ) → length (decide p v (settled p (act K (blocks K) c (view p))) .state .queue .entries) ≡ most-tasks
+      go (some k) = e
+      go none = pad-length noEntry most-tasks (act K (blocks K) c (view p) .state .queue)
+
+  -- ---- refusals
+
+  -- what is answered, by the verdict
+  data Answered (c : Call) (p : Stored) : Type 0 where
+    refusing : (k : ℤ) → verdict K (blocks K) (soundBy K p) c (view p) ≡ some k → performBy K c p ≡ refuse p k → Answered c p
+    doing : verdict K (blocks K) (soundBy K p) c (view p) ≡ none → performBy K c p ≡ settled p (act K (blocks K) c (view p)) → Answered c p
+
+  answered : (c : Call) (p : Stored) → Answered c p
+  unfolding performBy
+  answered c p = go (verdict K (blocks K) (soundBy K p) c (view p)) refl
+    where
+      go : (v : Option ℤ) → verdict K (blocks K) (soundBy K p) c (view p) ≡ v → Answered c p
+      go (some k) e = refusing k e (rw e)
+      go none e = doing e (rw e)
+
+  verdict-negative : (c : Call) (p : Stored) (k : ℤ) → verdict K (blocks K) (soundBy K p) c (view p) ≡ some k → refusedBy k ≡ some k
+  unfolding refusedBy
+  verdict-negative c p k e =
+      by (soundBy K p)
+      (λ h. let q : tests K (blocks K) c (view p) ≡ some k = rw h at e in negative-code k (rw q at (tests-negative K (blocks K) c (view p))) .0)
+      (λ h. let q : some e-sys ≡ some k = rw h at e in let r : e-sys ≡ k = cc in rw (← r))
+
+  done-code : (c : Call) (p : Stored) → performBy K c p ≡ settled p (act K (blocks K) c (view p)) → refusedBy (performBy K c p .said .code) ≡ none
+  done-code c p g = ap (λ (a : Reply Stored). refusedBy (a .said .code)) g ∙ act-code K (blocks K) c (view p)
+
+  pub refusal-keeps : (c : Call) (p : Stored) (k : ℤ) → refusedBy (performBy K c p .said .code) ≡ some k → performBy K c p ≡ refuse p k
+  refusal-keeps c p k e = go (answered c p)
+    where
+      go : Answered c p → performBy K c p ≡ refuse p k
+      go (doing v g) = no-some (sym e ∙ done-code c p g)
+      go (refusing j v g) = let q : some j ≡ some k = sym (verdict-negative c p j v) ∙ (sym (ap (λ (a : Reply Stored). refusedBy (a .said .code)) g) ∙ e) in let r : j ≡ k = cc in g ∙ ap (λ (x : ℤ). refuse p x) r
+
+  pub refusal-when : (c : Call) (p : Stored) (k : ℤ) → (refusedBy (performBy K c p .said .code) ≡ some k) ↔ Refused K (blocks K) (soundBy K p) (view p) c k
+  refusal-when c p k = (λ e. go e (answered c p), λ o. back (refused-verdict K (blocks K) (soundBy K p) c (view p) k o) (answered c p))
+    where
+      go : refusedBy (performBy K c p .said .code) ≡ some k → Answered c p → Refused K (blocks K) (soundBy K p) (view p) c k
+      go e (doing v g) = no-some (sym e ∙ done-code c p g)
+      go e (refusing j v g) =
+          let q : some j ≡ some k = sym (verdict-negative c p j v) ∙ (sym (ap (λ (a : Reply Stored). refusedBy (a .said .code)) g) ∙ e) in
+          verdict-refused K (blocks K) (soundBy K p) c (view p) k (v ∙ q)
+
+      back : verdict K (blocks K) (soundBy K p) c (view p) ≡ some k → Answered c p → refusedBy (performBy K c p .said .code) ≡ some k
+      back e (doing v g) = no-some (sym e ∙ v)
+      back e (refusing j v g) = ap (λ (a : Reply Stored). refusedBy (a .said .code)) g ∙ (verdict-negative c p j v ∙ (sym v ∙ e))
 
 -- ---- grants add headers and take none away
 
@@ -84,6 +143,24 @@ module _ (K : Rules) (L : Laws K) where
       go none e =
           rw (step-done K (blocks K) (cancel t) s (verdict-sound K (blocks K) (cancel t) s h ∙ e))
           (serve-finer (s .pool) (remove t (s .queue)) (remove-queued K t (s .queue) (open-sound K (blocks K) s h .order)))
+
+-- ---- an empty queue, and one block
+
+queued-nil : (K : Rules) → queued K [] ≡ true
+unfolding queued
+queued-nil K = refl
+
+stuck-nil : (K : Rules) {P : Type 0} (E : Store P) (p : P) → headStuck K E p [] ≡ true
+unfolding headStuck
+stuck-nil K E p = refl
+
+tiled-nil : (tasks : ℕ) (p : Bool) → tiled tasks p [] ≡ true
+unfolding tiled
+tiled-nil tasks p = refl
+
+total-one : (n : ℕ) → total (block n 0 ∷ []) ≡ n
+unfolding total
+total-one n = add-zero n
 
 -- only gets
 unfoldable Gets : List Call → Type 0
@@ -250,14 +327,31 @@ module _ (R : ℕ → Rules) (law : (n : ℕ) → Laws (R n)) (long-is : (n : �
       let n = length (p .bytes) in
       ends-alike (perform R) (step (R n) (blocks (R n))) (λ _. Shown n) (λ c cs p s o. let u = next n c p s o in (u .said, u .shown)) cs p (view p) (own p h) .good
 
+  pub perform-seen : (c : Call) (p : Stored) → isSound R p ≡ true → Seen R c p
+  perform-seen c p h = let u = next (length (p .bytes)) c p (view p) (own p h) in record { said = u .said; state = u .shown .is }
+
   pub perform-sound : (c : Call) (p : Stored) → isSound R p ≡ true → isSound R (perform R c p .state) ≡ true
   perform-sound c p h = next (length (p .bytes)) c p (view p) (own p h) .shown .good
+
+  pub woken-fit : (c : Call) (p : Stored) → isSound R p ≡ true → length (perform R c p .said .woken) ≤ most-tasks
+  woken-fit c p h = go (tests K B c (view p)) refl
+    where
+      K : Rules
+      K = rulesOf R p
+
+      B : Store (List Block)
+      B = blocks K
+
+      go : (v : Option ℤ) → tests K B c (view p) ≡ v → length (perform R c p .said .woken) ≤ most-tasks
+      go (some k) e = rw (by-refused K c p k h e) (omega arith)
+      go none e =
+          rw (by-done K c p h e) (omega (arith, woken-length K B (law (length (p .bytes))) (block-laws K) c (view p) (open-stored K p h .0) e, law (length (p .bytes)) .tasks-most))
 
   -- ---- demand 3
 
   pub perform-no-trace : (p : Stored) (f : Request) (rs : List Request) → isSound R p ≡ true → Typed p → perform R (get f) p .said .code ≡ waiting
-      → Others (rulesOf R p .rank) (f .task) (rulesOf R p .rank (entryOf f)) rs → NoTrace (perform R) p f rs
-  perform-no-trace p f rs h t z os =
+      → Others (f .task) rs → Ranked (rulesOf R p .rank) (rulesOf R p .rank (entryOf f)) rs → NoTrace (perform R) p f rs
+  perform-no-trace p f rs h t z os rk =
       let n = length (p .bytes) in
       let K = R n in
       let B = blocks K in
@@ -266,7 +360,7 @@ module _ (R : ℕ → Rules) (law : (n : ℕ) → Laws (R n)) (long-is : (n : �
       let o = shows-own p h t in
       let u = next n (get f) p s (own p h) in
       let hs = shown-sound n p s (own p h) in
-      let m = no-trace K B (law n) (block-laws K) s f rs hs (ap (λ (x : Said). x .code) (sym (u .said)) ∙ z) os in
+      let m = no-trace K B (law n) (block-laws K) s f rs hs (ap (λ (x : Said). x .code) (sym (u .said)) ∙ z) os rk in
       let p₁ = perform R (get f) p .state in
       let s₁ = step K B (get f) s .state in
       let o₁ = fine-next n b (get f) p s (get-finer K (law n) f s hs) o in
@@ -285,7 +379,41 @@ module _ (R : ℕ → Rules) (law : (n : ℕ) → Laws (R n)) (long-is : (n : �
       let state = shows-one n b (perform R c pe .state) (after (perform R) p (gets rs)) (step K B c se .state) (after (step K B) s (gets rs)) same last e₂ in
       record { cancelled = λ i. record { said = said i; state = state i }; refused = ap refusals r₁ ∙ m .refused ∙ sym (ap refusals r₂) }
 
-  pub record Undone (p : Stored) (a : Reply Stored) : Type 0 where
-    pub said : a .said ≡ says e-ok noOffset []
-    pub blocks : blocksOf (a .state .bytes) ≡ blocksOf (p .bytes)
-    pub queue : a .state .queue ≡ p .queue
+  pub perform-undone : (p : Stored) (r : Request) → isSound R p ≡ true → Typed p → perform R (get r) p .said .code ≡ e-ok → Undone p (undo (perform R) p r)
+  unfolding view
+  perform-undone p r h t z =
+      let n = length (p .bytes) in
+      let K = R n in
+      let B = blocks K in
+      let s = view p in
+      let u = next n (get r) p s (own p h) in
+      let z₁ : step K B (get r) s .said .code ≡ e-ok = ap (λ (x : Said). x .code) (sym (u .said)) ∙ z in
+      let g = get-release K B (law n) (block-laws K) r s (shown-sound n p s (own p h)) z₁ in
+      let at : perform R (get r) p .said .offset ≡ step K B (get r) s .said .offset = ap (λ (x : Said). x .offset) (u .said) in
+      let c = release (step K B (get r) s .said .offset) in
+      let v = next n c (perform R (get r) p .state) (step K B (get r) s .state) (u .shown) in
+      let back : view (perform R c (perform R (get r) p .state) .state) ≡ s = v .shown .is ∙ ap (λ (a : Reply (State (List Block))). a .state) g in
+      let q = perform R c (perform R (get r) p .state) .state in
+      let places : queueOf (entriesOf (q .queue)) ≡ q .queue =
+      queue-entries (q .queue) (places-by (rulesOf R (perform R (get r) p .state)) c (perform R (get r) p .state) (places-by K (get r) p (t .places))) (open-stored (R (length (q .bytes))) q (v .shown .good) .1) in
+      rw at (record {
+        said = v .said ∙ ap (λ (a : Reply (State (List Block))). a .said) g;
+        blocks = ap (λ (x : State (List Block)). x .pool) back;
+        queue = sym places ∙ ap (λ (x : State (List Block)). queueOf (x .queue)) back ∙ queue-entries (p .queue) (t .places) (open-stored K p h .1);
+      })
+
+  -- ---- create
+
+  pub create-sound : (l : List ℕ) → R (length l) .valid ≡ true → isSound R (create R l .state) ≡ true
+  unfolding create view used pad tidy allUnused
+  create-sound l v =
+      let n = length l in
+      let K = R n in
+      let bs = block n 0 ∷ [] in
+      let tiling : tiled (K .tasks) false bs ≡ true = untile (K .tasks) false (block n 0) []
+      (record { by-four = rw (long-is n) at (law n .long-mod v); least = rw (long-is n) at (law n .long-least v); owned = omega arith; apart = refl; rest = tiled-nil (K .tasks) true }) in
+      let sums : total bs ≡ n = total-one n in
+      let eb : blocksOf (render bs l) ≡ bs = blocks-render (K .tasks) (omega (arith, law n .tasks-most)) false bs l tiling sums (omega (arith, law n .long-most v, long-is n)) in
+      let ok : sound K (blocks K) (state bs []) ≡ true = close-sound K (blocks K) (state bs [])
+      (record { valid = v; pool = close-blocks K bs (record { sums = sums ∙ sym (long-is n); tiling = tiling }); order = queued-nil K; stuck = stuck-nil K (blocks K) bs }) in
+      rw v (rw (render-length bs l) (close-stored K (stored (render bs l) (queueOf [])) (rw eb ok) refl))

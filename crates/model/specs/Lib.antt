@@ -3,8 +3,10 @@ pub mod Blocks
 pub mod Waiting
 pub mod Rules
 pub mod Calls
+pub mod Refusals
 pub mod Runs
 pub mod Bytes
 pub mod Places
 pub mod Pool
+pub mod Demands
 pub mod Table

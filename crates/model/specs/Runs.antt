@@ -1,4 +1,4 @@
--- Runs: calls one after the other, each handed its state as the call before left it; and what demand 3 says of them.
+-- Runs: calls one after the other, each handed its state as the call before left it; and lists of gets.
 use Prim.Native.Nat.{ℕ, zero, suc}
 use mathlib.Core.Path.{_≡_}
 use mathlib.Core.Bool.{Bool, true, false, cond}
@@ -6,9 +6,9 @@ use mathlib.Core.List.{List, [], _∷_}
 use mathlib.Core.Option.{Option, none, some}
 use lib.Dec.{eqb}
 use lib.IntN.{ℤ, pos, negsuc}
-use Rattle.model.specs.Limits.{e-ok, e-rlwai}
+use Rattle.model.specs.Limits.{e-ok}
 use Rattle.model.specs.Waiting.{Entry}
-use Rattle.model.specs.Calls.{BlockOffset, Woken, noOffset, Request, Call, get, release, cancel, tick, inquire, Said, Reply, says, entryOf, leaves}
+use Rattle.model.specs.Calls.{Woken, Request, Call, get, release, cancel, tick, inquire, Said, Reply, entryOf}
 
 -- a call of a run and what it was told
 pub record Turn : Type 0 where
@@ -65,21 +65,12 @@ unfoldable pub Absent : ℕ → List Request → Type 0
 Absent t [] = Unit {0}
 Absent t (r ∷ rs) = (r .task ≡ t → ⊥) × Absent t rs
 
--- by other tasks than t, each with any limit but 0, no task twice, and all of the rank k
-unfoldable pub Others : (Entry → ℕ) → ℕ → ℕ → List Request → Type 0
-Others rank t k [] = Unit {0}
-Others rank t k (r ∷ rs) = (r .task ≡ t → ⊥) × (r .limit ≡ pos 0 → ⊥) × (rank (entryOf r) ≡ k) × Absent (r .task) rs × Others rank t k rs
+-- by other tasks than t, each with any limit but 0, no task twice
+unfoldable pub Others : ℕ → List Request → Type 0
+Others t [] = Unit {0}
+Others t (r ∷ rs) = (r .task ≡ t → ⊥) × (r .limit ≡ pos 0 → ⊥) × Absent (r .task) rs × Others t rs
 
--- ---- demand 3
-
-module _ {S : Type 0} (step : Call → S → Reply S) (s : S) where
-  -- First half: after the get f and the gets rs, the cancel of f's task leaves what the gets rs alone leave, wakes that task with -49 and then
-  -- those whom the gets alone grant, and the same gets are refused.
-  pub record NoTrace (f : Request) (rs : List Request) : Type 0 where
-    pub cancelled : step (cancel (f .task)) (after step (step (get f) s .state) (gets rs))
-        ≡ record { said = says e-ok noOffset (leaves e-rlwai (f .task) ∷ winners (run step s (gets rs))); state = after step s (gets rs) }
-    pub refused : refusals (run step (step (get f) s .state) (gets rs)) ≡ refusals (run step s (gets rs))
-
-  -- Second half: the release of the offset that the get r answered.
-  abbrev pub undo : Request → Reply S
-  undo r = step (release (step (get r) s .said .offset)) (step (get r) s .state)
+-- all of the rank k
+unfoldable pub Ranked : (Entry → ℕ) → ℕ → List Request → Type 0
+Ranked rank k [] = Unit {0}
+Ranked rank k (r ∷ rs) = (rank (entryOf r) ≡ k) × Ranked rank k rs

@@ -1,0 +1,124 @@
+-- What is proved of the calls: first over any rules that meet the laws, then for the pool of document 01. Assumes nothing.
+use Prim.Native.Nat.{ℕ, _≤_, _<_}
+use mathlib.Core.Path.{_≡_, refl, sym, ap, _∙_}
+use mathlib.Core.Bool.{Bool, true, false, not, _&&_}
+use mathlib.Core.Logic.{_↔_}
+use mathlib.Core.List.{List, [], _∷_}
+use mathlib.Core.Option.{Option, none, some}
+use native.Mathlib.Omega.{arith}
+use lib.ListN.{length}
+use lib.IntN.{ℤ, pos}
+use Rattle.model.specs.Limits.{most-tasks, e-ok, waiting, e-sys}
+use Rattle.model.specs.Blocks.{Block}
+use Rattle.model.specs.Waiting.{Entry}
+use Rattle.model.specs.Rules.{Rules, Laws, queued, base}
+use Rattle.model.specs.Calls.{Request, Call, get, Said, Reply, refuse, entryOf, blocks, State, tests, verdict, act, step}
+use Rattle.model.specs.Refusals.{Refused}
+use Rattle.model.specs.Runs.{after, run, refusedBy, Others, Ranked}
+use Rattle.model.specs.Bytes.{blocksOf, render}
+use Rattle.model.specs.Places.{Queue, entriesOf, queueOf}
+use Rattle.model.specs.Demands.{Seen, NoTrace, undo, Undone}
+use Rattle.model.specs.Pool.{Stored, Typed, view, soundBy, performBy, rulesOf, isSound, perform, create}
+use Rattle.model.proofs.Bytes.{blocks-render, render-blocks}
+use Rattle.model.proofs.Places.{queued-live, used-pad, queue-entries}
+use Rattle.model.proofs.Waiting.{queued-length}
+use Rattle.model.proofs.Store.{open-blocks, block-laws}
+use Rattle.model.proofs.Soundness.{open-sound, woken-length}
+use Rattle.model.proofs.Refusals.{verdict-refused, refused-verdict, act-code}
+use Rattle.model.proofs.NoTrace.{tests-negative, negative-code}
+use Rattle.model.proofs.Pool as P
+use Rattle.model.proofs.Pool.{open-stored}
+use Rattle.model.proofs.Base.{base-laws, base-long, base-one-rank}
+
+module _ (R : ℕ → Rules) (law : (n : ℕ) → Laws (R n)) (long-is : (n : ℕ) → R n .long ≡ n) where
+  -- ---- a sound state stays sound
+
+  pub create-sound : (l : List ℕ) → R (length l) .valid ≡ true → isSound R (create R l .state) ≡ true
+  create-sound l v = P.create-sound R law long-is l v
+
+  pub call-sound : (c : Call) (p : Stored) → isSound R p ≡ true → isSound R (perform R c p .state) ≡ true
+  call-sound c p h = P.perform-sound R law long-is c p h
+
+  pub run-sound : (p : Stored) (cs : List Call) → isSound R p ≡ true → isSound R (after (perform R) p cs) ≡ true
+  run-sound p cs h = P.after-sound R law long-is p cs h
+
+  -- ---- demand 1, for any bytes, queue and numbers
+
+  -- a code other than 0 and 1 comes with offset 0 and nobody woken, and leaves every byte and the queue
+  pub refusal-keeps : (c : Call) (p : Stored) (k : ℤ) → refusedBy (perform R c p .said .code) ≡ some k → perform R c p ≡ refuse p k
+  refusal-keeps c p k e = P.refusal-keeps (rulesOf R p) c p k e
+
+  -- and is answered exactly as the table of refusals says
+  pub refusal-when : (c : Call) (p : Stored) (k : ℤ) → (refusedBy (perform R c p .said .code) ≡ some k) ↔ Refused (rulesOf R p) (blocks (rulesOf R p)) (isSound R p) (view p) c k
+  refusal-when c p k = P.refusal-when (rulesOf R p) c p k
+
+  -- ---- demand 2
+
+  -- a call on bytes and places is told what the call on block list and entries is told, and leaves what that leaves
+  pub call-seen : (c : Call) (p : Stored) → isSound R p ≡ true → Seen R c p
+  call-seen c p h = P.perform-seen R law long-is c p h
+
+  pub run-seen : (p : Stored) (cs : List Call) → isSound R p ≡ true → run (perform R) p cs ≡ run (step (rulesOf R p) (blocks (rulesOf R p))) (view p) cs
+  run-seen p cs h = P.run-view R law long-is p cs h
+
+  -- block list from bytes
+  pub blocks-of-render : (bs : List Block) (l : List ℕ) → R (length l) .valid ≡ true → blocks (R (length l)) .sound bs ≡ true → blocksOf (render bs l) ≡ bs
+  blocks-of-render bs l v h =
+      let n = length l in
+      let o = open-blocks (R n) bs h in
+      blocks-render (R n .tasks) (omega (arith, law n .tasks-most)) false bs l (o .tiling) (o .sums ∙ long-is n) (omega (arith, law n .long-most v, long-is n))
+
+  -- bytes from block list
+  pub render-of-blocks : (p : Stored) → isSound R p ≡ true → Typed p → render (blocksOf (p .bytes)) (p .bytes) ≡ p .bytes
+  unfolding view
+  render-of-blocks p h t =
+      let n = length (p .bytes) in
+      let o = open-blocks (R n) (blocksOf (p .bytes)) (open-sound (R n) (blocks (R n)) (view p) (open-stored (R n) p h .0) .pool) in
+      render-blocks (R n .tasks) (p .bytes) (o .tiling) (o .sums ∙ long-is n) (t .byte)
+
+  -- entries from places, and places from entries
+  pub entries-of-queue : (n : ℕ) (q : List Entry) → queued (R n) q ≡ true → entriesOf (queueOf q) ≡ q
+  entries-of-queue n q h = used-pad most-tasks q (queued-live (R n) q h) (omega (arith, queued-length (R n) q h, law n .tasks-most))
+
+  pub queue-of-entries : (p : Stored) → isSound R p ≡ true → Typed p → queueOf (entriesOf (p .queue)) ≡ p .queue
+  queue-of-entries p h t = queue-entries (p .queue) (t .places) (open-stored (rulesOf R p) p h .1)
+
+  -- the woken list has room for all, and so has the queue, by `call-seen` and `entries-of-queue`
+  pub woken-fit : (c : Call) (p : Stored) → isSound R p ≡ true → length (perform R c p .said .woken) ≤ most-tasks
+  woken-fit c p h = P.woken-fit R law long-is c p h
+
+  -- ---- demand 3
+
+  -- first half, for every list of gets
+  pub cancel-no-trace : (p : Stored) (f : Request) (rs : List Request) → isSound R p ≡ true → Typed p → perform R (get f) p .said .code ≡ waiting
+      → Others (f .task) rs → Ranked (rulesOf R p .rank) (rulesOf R p .rank (entryOf f)) rs → NoTrace (perform R) p f rs
+  cancel-no-trace p f rs h t z os rk = P.perform-no-trace R law long-is p f rs h t z os rk
+
+  -- second half; a poll is a get with limit 0
+  pub release-undoes : (p : Stored) (r : Request) → isSound R p ≡ true → Typed p → perform R (get r) p .said .code ≡ e-ok → Undone p (undo (perform R) p r)
+  release-undoes p r h t z = P.perform-undone R law long-is p r h t z
+
+-- ---- the pool of document 01
+
+pub base-create-sound : (l : List ℕ) → base (length l) .valid ≡ true → isSound base (create base l .state) ≡ true
+base-create-sound = create-sound base base-laws base-long
+
+pub base-call-sound : (c : Call) (p : Stored) → isSound base p ≡ true → isSound base (perform base c p .state) ≡ true
+base-call-sound = call-sound base base-laws base-long
+
+pub base-refusal-keeps : (c : Call) (p : Stored) (k : ℤ) → refusedBy (perform base c p .said .code) ≡ some k → perform base c p ≡ refuse p k
+base-refusal-keeps = refusal-keeps base base-laws base-long
+
+pub base-refusal-when : (c : Call) (p : Stored) (k : ℤ) → (refusedBy (perform base c p .said .code) ≡ some k) ↔ Refused (rulesOf base p) (blocks (rulesOf base p)) (isSound base p) (view p) c k
+base-refusal-when = refusal-when base base-laws base-long
+
+pub base-call-seen : (c : Call) (p : Stored) → isSound base p ≡ true → Seen base c p
+base-call-seen = call-seen base base-laws base-long
+
+pub base-cancel-no-trace : (p : Stored) (f : Request) (rs : List Request) → isSound base p ≡ true → Typed p → perform base (get f) p .said .code ≡ waiting
+    → Others (f .task) rs → NoTrace (perform base) p f rs
+base-cancel-no-trace p f rs h t z os = cancel-no-trace base base-laws base-long p f rs h t z os (base-one-rank (length (p .bytes)) (entryOf f) rs)
+
+pub base-release-undoes : (p : Stored) (r : Request) → isSound base p ≡ true → Typed p → perform base (get r) p .said .code ≡ e-ok
+    → Undone p (undo (perform base) p r)
+base-release-undoes = release-undoes base base-laws base-long

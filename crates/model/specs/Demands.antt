@@ -1,0 +1,32 @@
+-- What demands 2 and 3 say of the calls.
+use Prim.Native.Nat.{ℕ}
+use mathlib.Core.Path.{_≡_}
+use mathlib.Core.List.{List, [], _∷_}
+use Rattle.model.specs.Limits.{e-ok, e-rlwai}
+use Rattle.model.specs.Rules.{Rules}
+use Rattle.model.specs.Calls.{noOffset, Request, Call, get, release, cancel, Reply, says, leaves, blocks, step}
+use Rattle.model.specs.Runs.{after, run, gets, refusals, winners}
+use Rattle.model.specs.Bytes.{blocksOf}
+use Rattle.model.specs.Pool.{Stored, view, rulesOf, perform}
+
+-- Demand 2: a call on bytes and places is told what the call on block list and entries is told, and leaves what that leaves.
+pub record Seen (R : ℕ → Rules) (c : Call) (p : Stored) : Type 0 where
+  pub said : perform R c p .said ≡ step (rulesOf R p) (blocks (rulesOf R p)) c (view p) .said
+  pub state : view (perform R c p .state) ≡ step (rulesOf R p) (blocks (rulesOf R p)) c (view p) .state
+
+-- Demand 3, first half: after the get f and then the gets rs, the cancel of f's task answers 0, leaves what the gets rs alone leave, and wakes that
+-- task with -49 and then those whom the gets alone grant; and the same gets are refused.
+pub record NoTrace {S : Type 0} (step : Call → S → Reply S) (s : S) (f : Request) (rs : List Request) : Type 0 where
+  pub cancelled : step (cancel (f .task)) (after step (step (get f) s .state) (gets rs))
+      ≡ record { said = says e-ok noOffset (leaves e-rlwai (f .task) ∷ winners (run step s (gets rs))); state = after step s (gets rs) }
+  pub refused : refusals (run step (step (get f) s .state) (gets rs)) ≡ refusals (run step s (gets rs))
+
+-- Demand 3, second half: the release of the offset that the get r answered, on what that get left.
+abbrev pub undo : {S : Type 0} → (Call → S → Reply S) → S → Request → Reply S
+undo step s r = step (release (step (get r) s .said .offset)) (step (get r) s .state)
+
+-- It answers 0 and wakes nobody, and the block list and the queue of p are back.
+pub record Undone (p : Stored) (a : Reply Stored) : Type 0 where
+  pub said : a .said ≡ says e-ok noOffset []
+  pub blocks : blocksOf (a .state .bytes) ≡ blocksOf (p .bytes)
+  pub queue : a .state .queue ≡ p .queue
