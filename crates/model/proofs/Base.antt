@@ -8,7 +8,7 @@ use lib.Dec.{leb, eqb}
 use borrow.Author.Tests.{leb-true, eqb-true}
 use Rattle.model.specs.Limits.{longest-pool}
 use Rattle.model.specs.Waiting.{Entry}
-use Rattle.model.specs.Rules.{Rules, Laws, okLong, okSize, base}
+use Rattle.model.specs.Rules.{Laws, okLong, okSize, base}
 use Rattle.model.specs.Calls.{Request}
 use Rattle.model.specs.Runs.{Ranked}
 use Rattle.model.proofs.Tests.{and-l, and-r}

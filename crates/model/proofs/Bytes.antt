@@ -1,7 +1,7 @@
 -- Laws of the pool's bytes: block list from bytes and bytes from block list are inverse, and one change after another is one change. Assumes nothing.
 use Prim.Native.Nat.{ℕ, zero, suc, _+_, _-_, _*_, _/_, _%_, _≤_, _<_}
 use mathlib.Core.Path.{_≡_, refl, sym, ap, _∙_}
-use mathlib.Core.Bool.{Bool, true, false, cond, _&&_}
+use mathlib.Core.Bool.{Bool, true, false, _&&_}
 use mathlib.Core.List.{List, [], _∷_, _++_, append-assoc}
 use mathlib.Core.Option.{Option, none, some}
 use native.Mathlib.Omega.{arith}
@@ -14,7 +14,7 @@ use borrow.Author.Tests.{leb-true}
 use Rattle.model.specs.Blocks.{Block, block, isFree, holds, total, tiled, carve, granted, join, freed}
 use Rattle.model.specs.Bytes.{u32At, headerAt, blocksFrom, blocksOf, le32, header, blank, overlay, written, mask, render, erase}
 use Rattle.model.proofs.Tests.{by}
-use Rattle.model.proofs.Blocks.{open-holds, Tile, tile}
+use Rattle.model.proofs.Blocks.{open-holds, tile}
 
 -- ---- numbers of four bytes
 

@@ -1,24 +1,24 @@
 -- Demand 3 over any store: a cancelled wait leaves no trace, and a block got and released at once leaves none either. Assumes nothing.
-use Prim.Native.Nat.{ℕ, _+_, _-_, _≤_}
+use Prim.Native.Nat.{ℕ, _+_}
 use mathlib.Core.Path.{_≡_, refl, sym, ap, _∙_}
-use mathlib.Core.Bool.{Bool, true, false, not, cond, _&&_, _||_}
+use mathlib.Core.Bool.{Bool, true, false, not, _&&_, _||_}
 use mathlib.Core.List.{List, [], _∷_, _++_, append-assoc, append-nil}
 use mathlib.Core.Option.{Option, none, some}
 use native.Mathlib.Omega.{arith}
 use lib.Dec.{leb, eqb}
 use lib.IntN.{ℤ, pos, negsuc}
 use borrow.Author.Tests.{le-leb, ne-eqb}
-use Rattle.model.specs.Limits.{e-ok, waiting, e-sys, e-par, e-id, e-ctx, e-obj, e-rlwai, e-tmout}
-use Rattle.model.specs.Waiting.{Entry, waits, remove, insert, blocked}
+use Rattle.model.specs.Limits.{e-ok, waiting, e-rlwai}
+use Rattle.model.specs.Waiting.{Entry, waits, remove, blocked}
 use Rattle.model.specs.Rules.{Rules, Laws, okTask}
-use Rattle.model.specs.Calls.{BlockOffset, HeaderPlace, Woken, noOffset, offsetOf, placeOf, Request, Call, get, release, cancel, tick, inquire, Said, Reply, says, refuse, deny, okLimit, isPoll, entryOf, leaves, Store, State, state, Served, wake, fitting, offset, given, wakes, serve, headStuck, sound, goes, isLive, tests, verdict, grants, joins, act, step}
-use Rattle.model.specs.Runs.{Turn, after, run, gets, refusedBy, refusals, isZero, winners, Absent, Others, Ranked}
+use Rattle.model.specs.Calls.{HeaderPlace, Woken, noOffset, offsetOf, placeOf, Request, Call, get, release, cancel, tick, inquire, Reply, says, refuse, deny, okLimit, isPoll, entryOf, leaves, Store, State, state, Served, wake, fitting, offset, given, wakes, serve, headStuck, sound, goes, isLive, tests, grants, joins, act, step}
+use Rattle.model.specs.Runs.{after, run, gets, refusedBy, refusals, isZero, winners, Absent, Others, Ranked}
 use Rattle.model.specs.Demands.{NoTrace, undo}
-use Rattle.model.proofs.Tests.{by, clash, and-l, and-r, or-f-l, or-f-r, or-f}
+use Rattle.model.proofs.Tests.{by, clash, and-r, or-f-l, or-f-r, or-f}
 use Rattle.model.proofs.Waiting.{waits-other, remove-insert-same, remove-insert, waits-insert, waits-insert-same, blocked-insert, blocked-more}
 use Rattle.model.proofs.Store.{StoreLaws}
 use Rattle.model.proofs.Serving.{serve-stuck, Below, below-stuck, below-insert, more, serve-insert}
-use Rattle.model.proofs.Soundness.{no-some, Sound, open-sound, Passed, passed, passed-asked, step-refused, step-done, verdict-sound, step-sound}
+use Rattle.model.proofs.Soundness.{no-some, open-sound, Passed, passed, passed-asked, step-refused, step-done, verdict-sound, step-sound}
 
 -- ---- refusals are negative
 

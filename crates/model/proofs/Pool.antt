@@ -1,32 +1,32 @@
 -- The calls on bytes and places are the calls on block list and entries; demand 3 brought to bytes and places. Assumes nothing.
-use Prim.Native.Nat.{ℕ, _+_, _-_, _≤_, _<_}
+use Prim.Native.Nat.{ℕ, _≤_}
 use mathlib.Core.Path.{_≡_, refl, sym, ap, _∙_}
-use mathlib.Core.Bool.{Bool, true, false, not, cond, _&&_}
+use mathlib.Core.Bool.{Bool, true, false}
 use mathlib.Core.Logic.{_↔_}
-use mathlib.Core.List.{List, [], _∷_, _++_}
+use mathlib.Core.List.{List, [], _∷_}
 use mathlib.Core.Option.{Option, none, some}
 use native.Mathlib.Omega.{arith}
 use native.Mathlib.Nat.{add-zero}
 use lib.ListN.{length}
-use lib.IntN.{ℤ, pos, negsuc}
+use lib.IntN.{ℤ}
 use Rattle.model.specs.Limits.{most-tasks, e-ok, waiting, e-sys, e-rlwai}
-use Rattle.model.specs.Blocks.{Block, block, total, tiled, granted}
-use Rattle.model.specs.Waiting.{Entry, waits, remove}
-use Rattle.model.specs.Rules.{Rules, Laws, okTask, queued}
-use Rattle.model.specs.Calls.{BlockOffset, Woken, noOffset, Request, Call, get, release, cancel, tick, inquire, Said, Reply, says, refuse, decide, entryOf, leaves, blocks, Store, State, state, fitting, given, serve, headStuck, sound, goes, tests, verdict, grants, joins, act, step}
+use Rattle.model.specs.Blocks.{Block, block, total, tiled}
+use Rattle.model.specs.Waiting.{Entry, remove}
+use Rattle.model.specs.Rules.{Rules, Laws, queued}
+use Rattle.model.specs.Calls.{noOffset, Request, Call, get, release, cancel, tick, inquire, Said, Reply, says, refuse, decide, entryOf, leaves, blocks, Store, State, state, fitting, given, serve, headStuck, sound, tests, verdict, act, step}
 use Rattle.model.specs.Refusals.{Refused}
 use Rattle.model.specs.Runs.{Turn, after, run, gets, refusedBy, refusals, winners, Others, Ranked}
 use Rattle.model.specs.Demands.{Seen, NoTrace, undo, Undone}
 use Rattle.model.specs.Bytes.{blocksOf, render, erase}
-use Rattle.model.specs.Places.{Queue, noEntry, pad, used, allUnused, tidy, entriesOf, queueOf}
+use Rattle.model.specs.Places.{noEntry, pad, used, allUnused, tidy, entriesOf, queueOf}
 use Rattle.model.specs.Pool.{Stored, stored, Typed, view, settled, soundBy, performBy, rulesOf, isSound, perform, create}
 use Rattle.model.proofs.Tests.{by, and-l, and-r, and-i}
 use Rattle.model.proofs.Blocks.{untile}
 use Rattle.model.proofs.Waiting.{open-queued, entry-asked, remove-queued, queued-length}
 use Rattle.model.proofs.Bytes.{Finer, finer-refl, finer-trans, granted-finer, render-length, erase-length, render-erase, render-render, blocks-render, render-blocks}
 use Rattle.model.proofs.Places.{queued-live, pad-length, used-pad, tidy-pad, queue-entries}
-use Rattle.model.proofs.Store.{Tiling, open-blocks, close-blocks, block-laws}
-use Rattle.model.proofs.Soundness.{no-some, Sound, open-sound, close-sound, passed, passed-asked, step-refused, step-done, verdict-sound, act-sound, step-sound, woken-length}
+use Rattle.model.proofs.Store.{open-blocks, close-blocks, block-laws}
+use Rattle.model.proofs.Soundness.{no-some, Sound, open-sound, close-sound, passed, passed-asked, step-refused, step-done, verdict-sound, act-sound, woken-length}
 use Rattle.model.proofs.Refusals.{verdict-refused, refused-verdict, act-code}
 use Rattle.model.proofs.NoTrace.{tests-negative, negative-code, Outcome, refusal, granting, joining, outcome, no-trace, get-release}
 use Rattle.model.proofs.Runs.{runs-alike, ends-alike}

@@ -1,17 +1,15 @@
 -- The tests of a call give document 01's table of refusals, and nothing else refuses. Assumes nothing.
-use Prim.Native.Nat.{ℕ}
-use mathlib.Core.Path.{_≡_, refl, sym, ap, _∙_}
-use mathlib.Core.Bool.{Bool, true, false, not, cond, _&&_}
+use mathlib.Core.Path.{_≡_, refl, sym}
+use mathlib.Core.Bool.{Bool, true, false, not, _&&_}
 use mathlib.Core.Option.{Option, none, some}
-use native.Mathlib.Omega.{arith}
-use lib.IntN.{ℤ, pos, negsuc}
+use lib.IntN.{ℤ}
 use Rattle.model.specs.Limits.{e-sys, e-par, e-id, e-ctx, e-obj, e-tmout}
 use Rattle.model.specs.Waiting.{waits}
 use Rattle.model.specs.Rules.{Rules, okTask}
-use Rattle.model.specs.Calls.{BlockOffset, Request, Call, get, release, cancel, tick, inquire, deny, okLimit, isPoll, entryOf, Store, State, goes, isLive, tests, verdict, act}
-use Rattle.model.specs.Refusals.{Fair, Refused, sys, get-id, cancel-id, get-par, release-par, get-ctx, cancel-obj, get-tmout}
+use Rattle.model.specs.Calls.{Request, Call, get, release, cancel, tick, inquire, deny, okLimit, isPoll, entryOf, Store, State, goes, isLive, tests, verdict, act}
+use Rattle.model.specs.Refusals.{Refused, sys, get-id, cancel-id, get-par, release-par, get-ctx, cancel-obj, get-tmout}
 use Rattle.model.specs.Runs.{refusedBy}
-use Rattle.model.proofs.Tests.{by, and-l, and-r, and-i, not-t, not-f}
+use Rattle.model.proofs.Tests.{by, and-l, and-r, not-t, not-f}
 use Rattle.model.proofs.Soundness.{no-some}
 
 -- a refusal by one test, or past it by the others

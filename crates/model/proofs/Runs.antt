@@ -2,7 +2,7 @@
 use mathlib.Core.Path.{_≡_, refl}
 use mathlib.Core.List.{List, [], _∷_}
 use Rattle.model.specs.Calls.{Call, Reply}
-use Rattle.model.specs.Runs.{Turn, after, run}
+use Rattle.model.specs.Runs.{after, run}
 
 -- R relates the states of both; it may look at the calls to come
 module _ {S Z : Type 0} (step₁ : Call → S → Reply S) (step₂ : Call → Z → Reply Z) (R : List Call → S → Z → Type 0)

@@ -1,20 +1,19 @@
 -- Every call leaves a sound state sound; a refused call leaves it as it was. Over any store. Assumes nothing.
-use Prim.Native.Nat.{ℕ, suc, _+_, _≤_}
-use mathlib.Core.Path.{_≡_, refl, sym, ap, _∙_}
-use mathlib.Core.Bool.{Bool, true, false, not, cond, _&&_}
-use mathlib.Core.List.{List, [], _∷_, _++_}
+use Prim.Native.Nat.{ℕ, suc, _≤_}
+use mathlib.Core.Path.{_≡_, refl, ap, _∙_}
+use mathlib.Core.Bool.{Bool, true, false, not, _&&_}
+use mathlib.Core.List.{List, [], _∷_}
 use mathlib.Core.Option.{Option, none, some}
 use native.Mathlib.Omega.{arith}
 use lib.ListN.{length, length-append}
-use lib.Dec.{leb, eqb}
+use lib.Dec.{leb}
 use lib.IntN.{ℤ, pos, negsuc}
 use borrow.Author.Tests.{le-leb, eqb-false}
-use Rattle.model.specs.Limits.{e-sys, e-par, e-id, e-ctx, e-obj, e-rlwai, e-tmout}
+use Rattle.model.specs.Limits.{e-par, e-id, e-ctx, e-obj, e-tmout}
 use Rattle.model.specs.Waiting.{Entry, waits, remove, insert, blocked, okLeft, expired, remaining}
 use Rattle.model.specs.Rules.{Rules, Laws, okTask, queued}
-use Rattle.model.specs.Calls.{BlockOffset, Woken, placeOf, Request, Call, get, release, cancel, tick, inquire, Reply, refuse, decide, deny, okLimit, isPoll, leftOf, entryOf, leave, Store, State, state, fitting, given, serve, headStuck, sound, goes, isLive, tests, verdict, act, step}
-use Rattle.model.specs.Runs.{refusedBy}
-use Rattle.model.proofs.Tests.{by, clash, and-l, and-r, and-i, not-t, not-f}
+use Rattle.model.specs.Calls.{placeOf, Request, Call, get, release, cancel, tick, inquire, refuse, deny, okLimit, isPoll, leftOf, entryOf, leave, Store, State, state, fitting, given, serve, headStuck, sound, goes, tests, verdict, act, step}
+use Rattle.model.proofs.Tests.{by, and-l, and-r, and-i, not-t, not-f}
 use Rattle.model.proofs.Waiting.{Asked, asked, entry-asked, open-queued, insert-queued, remove-queued, remaining-queued, queued-length, remove-count, expired-count}
 use Rattle.model.proofs.Store.{StoreLaws}
 use Rattle.model.proofs.Serving.{serve-ends, serve-count}

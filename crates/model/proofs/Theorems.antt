@@ -1,31 +1,29 @@
 -- What is proved of the calls: first over any rules that meet the laws, then for the pool of document 01. Assumes nothing.
-use Prim.Native.Nat.{ℕ, _≤_, _<_}
-use mathlib.Core.Path.{_≡_, refl, sym, ap, _∙_}
-use mathlib.Core.Bool.{Bool, true, false, not, _&&_}
+use Prim.Native.Nat.{ℕ, _≤_}
+use mathlib.Core.Path.{_≡_, _∙_}
+use mathlib.Core.Bool.{true, false}
 use mathlib.Core.Logic.{_↔_}
-use mathlib.Core.List.{List, [], _∷_}
-use mathlib.Core.Option.{Option, none, some}
+use mathlib.Core.List.{List}
+use mathlib.Core.Option.{some}
 use native.Mathlib.Omega.{arith}
 use lib.ListN.{length}
-use lib.IntN.{ℤ, pos}
-use Rattle.model.specs.Limits.{most-tasks, e-ok, waiting, e-sys}
+use lib.IntN.{ℤ}
+use Rattle.model.specs.Limits.{most-tasks, e-ok, waiting}
 use Rattle.model.specs.Blocks.{Block}
 use Rattle.model.specs.Waiting.{Entry}
 use Rattle.model.specs.Rules.{Rules, Laws, queued, base}
-use Rattle.model.specs.Calls.{Request, Call, get, Said, Reply, refuse, entryOf, blocks, State, tests, verdict, act, step}
+use Rattle.model.specs.Calls.{Request, Call, get, refuse, entryOf, blocks, step}
 use Rattle.model.specs.Refusals.{Refused}
 use Rattle.model.specs.Runs.{after, run, refusedBy, Others, Ranked}
 use Rattle.model.specs.Bytes.{blocksOf, render}
-use Rattle.model.specs.Places.{Queue, entriesOf, queueOf}
+use Rattle.model.specs.Places.{entriesOf, queueOf}
 use Rattle.model.specs.Demands.{Seen, NoTrace, undo, Undone}
-use Rattle.model.specs.Pool.{Stored, Typed, view, soundBy, performBy, rulesOf, isSound, perform, create}
+use Rattle.model.specs.Pool.{Stored, Typed, view, rulesOf, isSound, perform, create}
 use Rattle.model.proofs.Bytes.{blocks-render, render-blocks}
 use Rattle.model.proofs.Places.{queued-live, used-pad, queue-entries}
 use Rattle.model.proofs.Waiting.{queued-length}
-use Rattle.model.proofs.Store.{open-blocks, block-laws}
-use Rattle.model.proofs.Soundness.{open-sound, woken-length}
-use Rattle.model.proofs.Refusals.{verdict-refused, refused-verdict, act-code}
-use Rattle.model.proofs.NoTrace.{tests-negative, negative-code}
+use Rattle.model.proofs.Store.{open-blocks}
+use Rattle.model.proofs.Soundness.{open-sound}
 use Rattle.model.proofs.Pool as P
 use Rattle.model.proofs.Pool.{open-stored}
 use Rattle.model.proofs.Base.{base-laws, base-long, base-one-rank}
@@ -106,6 +104,9 @@ base-create-sound = create-sound base base-laws base-long
 pub base-call-sound : (c : Call) (p : Stored) → isSound base p ≡ true → isSound base (perform base c p .state) ≡ true
 base-call-sound = call-sound base base-laws base-long
 
+pub base-run-sound : (p : Stored) (cs : List Call) → isSound base p ≡ true → isSound base (after (perform base) p cs) ≡ true
+base-run-sound = run-sound base base-laws base-long
+
 pub base-refusal-keeps : (c : Call) (p : Stored) (k : ℤ) → refusedBy (perform base c p .said .code) ≡ some k → perform base c p ≡ refuse p k
 base-refusal-keeps = refusal-keeps base base-laws base-long
 
@@ -115,10 +116,27 @@ base-refusal-when = refusal-when base base-laws base-long
 pub base-call-seen : (c : Call) (p : Stored) → isSound base p ≡ true → Seen base c p
 base-call-seen = call-seen base base-laws base-long
 
+pub base-run-seen : (p : Stored) (cs : List Call) → isSound base p ≡ true → run (perform base) p cs ≡ run (step (rulesOf base p) (blocks (rulesOf base p))) (view p) cs
+base-run-seen = run-seen base base-laws base-long
+
+pub base-blocks-of-render : (bs : List Block) (l : List ℕ) → base (length l) .valid ≡ true → blocks (base (length l)) .sound bs ≡ true → blocksOf (render bs l) ≡ bs
+base-blocks-of-render = blocks-of-render base base-laws base-long
+
+pub base-render-of-blocks : (p : Stored) → isSound base p ≡ true → Typed p → render (blocksOf (p .bytes)) (p .bytes) ≡ p .bytes
+base-render-of-blocks = render-of-blocks base base-laws base-long
+
+pub base-entries-of-queue : (n : ℕ) (q : List Entry) → queued (base n) q ≡ true → entriesOf (queueOf q) ≡ q
+base-entries-of-queue = entries-of-queue base base-laws base-long
+
+pub base-queue-of-entries : (p : Stored) → isSound base p ≡ true → Typed p → queueOf (entriesOf (p .queue)) ≡ p .queue
+base-queue-of-entries = queue-of-entries base base-laws base-long
+
+pub base-woken-fit : (c : Call) (p : Stored) → isSound base p ≡ true → length (perform base c p .said .woken) ≤ most-tasks
+base-woken-fit = woken-fit base base-laws base-long
+
 pub base-cancel-no-trace : (p : Stored) (f : Request) (rs : List Request) → isSound base p ≡ true → Typed p → perform base (get f) p .said .code ≡ waiting
     → Others (f .task) rs → NoTrace (perform base) p f rs
 base-cancel-no-trace p f rs h t z os = cancel-no-trace base base-laws base-long p f rs h t z os (base-one-rank (length (p .bytes)) (entryOf f) rs)
 
-pub base-release-undoes : (p : Stored) (r : Request) → isSound base p ≡ true → Typed p → perform base (get r) p .said .code ≡ e-ok
-    → Undone p (undo (perform base) p r)
+pub base-release-undoes : (p : Stored) (r : Request) → isSound base p ≡ true → Typed p → perform base (get r) p .said .code ≡ e-ok → Undone p (undo (perform base) p r)
 base-release-undoes = release-undoes base base-laws base-long

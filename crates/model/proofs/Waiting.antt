@@ -8,7 +8,7 @@ use lib.ListN.{length}
 use lib.Dec.{leb, eqb}
 use borrow.Author.Tests.{leb-true, leb-false, eqb-true, eqb-false, le-leb, lt-leb, eq-eqb, ne-eqb}
 use Rattle.model.specs.Limits.{longest-left, forever}
-use Rattle.model.specs.Waiting.{Entry, waits, remove, insert, blocked, leads, okLeft, withLeft, expires, aged, expired, remaining}
+use Rattle.model.specs.Waiting.{Entry, waits, remove, insert, blocked, leads, okLeft, expires, aged, expired, remaining}
 use Rattle.model.specs.Rules.{Rules, Laws, okTask, okEntry, queued}
 use Rattle.model.proofs.Tests.{by, clash, and-l, and-r, and-i, or-f-l, or-f-r, or-f, or-t-r, not-t}
 

@@ -1,9 +1,9 @@
 -- The places of the queue and of the woken list, unused ones all zeros.
 use Prim.Native.Nat.{ℕ, zero, suc}
-use mathlib.Core.Bool.{Bool, true, false, cond, _&&_}
+use mathlib.Core.Bool.{Bool, true, cond, _&&_}
 use mathlib.Core.List.{List, [], _∷_}
 use lib.Dec.{eqb}
-use lib.IntN.{ℤ, pos}
+use lib.IntN.{pos}
 pub use Rattle.model.specs.declared.Queue.{Queue}
 use Rattle.model.specs.Limits.{most-tasks}
 use Rattle.model.specs.Waiting.{Entry}

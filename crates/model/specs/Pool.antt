@@ -1,11 +1,10 @@
 -- The calls on a state as its caller keeps it, the pool's bytes and the queue's places: what the public functions promise.
 use Prim.Native.Nat.{ℕ, _<_}
 use mathlib.Core.Path.{_≡_}
-use mathlib.Core.Bool.{Bool, not, cond, _&&_}
+use mathlib.Core.Bool.{Bool, not, _&&_}
 use mathlib.Core.List.{List, [], _∷_}
-use mathlib.Core.Option.{Option, none, some}
+use mathlib.Core.Option.{none}
 use lib.ListN.{length, getD}
-use lib.IntN.{ℤ}
 pub use Rattle.model.specs.declared.Answer.{Answer}
 pub use Rattle.model.specs.declared.Totals.{Totals}
 use Rattle.model.specs.Limits.{most-tasks, e-ok, e-par}

@@ -2,12 +2,12 @@
 use Prim.Native.Nat.{ℕ, _+_, _-_}
 use mathlib.Core.List.{List, [], _∷_, _++_}
 use lib.ListN.{replicate}
-use lib.IntN.{ℤ, pos, negsuc}
+use lib.IntN.{ℤ, pos}
 use Rattle.model.specs.Limits.{forever, minus, e-ok, waiting, e-par, e-rlwai, e-tmout}
 use Rattle.model.specs.Blocks.{Block, block}
 use Rattle.model.specs.Waiting.{Entry}
 use Rattle.model.specs.Rules.{base}
-use Rattle.model.specs.Calls.{Woken, Request, Call, get, poll, release, cancel, tick, inquire, Said, Reply, says}
+use Rattle.model.specs.Calls.{Woken, Call, get, poll, release, cancel, tick, inquire, Said, Reply, says}
 use Rattle.model.specs.Pool.{Stored, view, perform, create}
 
 -- a call, what it is told, and the block list and queue that it leaves
@@ -192,5 +192,18 @@ row-l =
       bytes = head 20 1 ++ body 12 ++ head 28 2 ++ body 20 ++ head 16 4 ++ body 8;
     }
 
+-- beside document 01's: a rest of 12 bytes is split off, a rest of 8 is not
+abbrev pub row-split : Row
+row-split =
+    record {
+      long = 64;
+      code = e-ok;
+      lines = line (wants 1 44) (told e-ok 8 []) (block 52 1 ∷ block 12 0 ∷ []) [] ∷ [];
+      bytes = head 52 1 ++ body 44 ++ head 12 0 ++ body 4;
+    }
+
+abbrev pub row-whole : Row
+row-whole = record { long = 64; code = e-ok; lines = line (wants 1 45) (told e-ok 8 []) (block 64 1 ∷ []) [] ∷ []; bytes = head 64 1 ++ body 56 }
+
 abbrev pub table : List Row
-table = row-a ∷ row-b ∷ row-c ∷ row-e ∷ row-f ∷ row-g ∷ row-h ∷ row-i ∷ row-j ∷ row-k 64 56 ∷ row-k 12 4 ∷ row-l ∷ []
+table = row-a ∷ row-b ∷ row-c ∷ row-e ∷ row-f ∷ row-g ∷ row-h ∷ row-i ∷ row-j ∷ row-k 64 56 ∷ row-k 12 4 ∷ row-l ∷ row-split ∷ row-whole ∷ []
