@@ -15,6 +15,7 @@ use Rattle.model.specs.Blocks.{Block, block, isFree, holds, total, tiled
 use Rattle.model.specs.Bytes.{u32At, headerAt, blocksFrom, blocksOf, le32, header, blank, overlay, written, mask, render, erase}
 use Rattle.model.proofs.Tests.{by}
 use Rattle.model.proofs.Blocks.{open-holds, tile}
+use Rattle.model.proofs.Masks.{overlay-overlay, overlay-length, over-same, written-length, over-written, over-none, Covers, covers-trans, covers-append, covers-zeroed, zeroed-covers, zeroed-under, header-length, mark-length, mask-blank, Roomy}
 
 -- ---- numbers of four bytes
 
@@ -77,131 +78,6 @@ u32-drop p q l = simp (getD-drop, add-assoc)
 pub header-drop : (p : ℕ) (l : List ℕ) → headerAt (drop p l) 0 ≡ headerAt l p
 header-drop p l = λ i. block ((u32-drop p 0 l ∙ ap (u32At l) (add-zero p)) i) (u32-drop p 4 l i)
 
--- ---- masks
-
--- cs writes wherever ms does, and is as long
-unfoldable pub Covers : List (Option ℕ) → List (Option ℕ) → Type 0
-Covers [] [] = Unit {0}
-Covers [] (c ∷ cs) = ⊥
-Covers (m ∷ ms) [] = ⊥
-Covers (none ∷ ms) (c ∷ cs) = Covers ms cs
-Covers (some y ∷ ms) (none ∷ cs) = ⊥
-Covers (some y ∷ ms) (some z ∷ cs) = Covers ms cs
-
-overlay-over : (ms cs : List (Option ℕ)) (l : List ℕ) → Covers ms cs → overlay cs (overlay ms l) ≡ overlay cs l
-unfolding overlay Covers
-overlay-over [] cs l h = refl
-overlay-over (m ∷ ms) [] l h = absurd h
-overlay-over (none ∷ ms) (c ∷ cs) [] h = refl
-overlay-over (some y ∷ ms) (c ∷ cs) [] h = refl
-overlay-over (none ∷ ms) (none ∷ cs) (x ∷ l) h = ap (λ (r : List ℕ). x ∷ r) (overlay-over ms cs l h)
-overlay-over (none ∷ ms) (some z ∷ cs) (x ∷ l) h = ap (λ (r : List ℕ). z ∷ r) (overlay-over ms cs l h)
-overlay-over (some y ∷ ms) (none ∷ cs) (x ∷ l) h = absurd h
-overlay-over (some y ∷ ms) (some z ∷ cs) (x ∷ l) h = ap (λ (r : List ℕ). z ∷ r) (overlay-over ms cs l h)
-
-pub overlay-length : (ms : List (Option ℕ)) (l : List ℕ) → length (overlay ms l) ≡ length l
-unfolding overlay
-overlay-length [] l = refl
-overlay-length (m ∷ ms) [] = refl
-overlay-length (none ∷ ms) (x ∷ l) = ap suc (overlay-length ms l)
-overlay-length (some y ∷ ms) (x ∷ l) = ap suc (overlay-length ms l)
-
-pub covers-refl : (ms : List (Option ℕ)) → Covers ms ms
-unfolding Covers
-covers-refl [] = tt
-covers-refl (none ∷ ms) = covers-refl ms
-covers-refl (some y ∷ ms) = covers-refl ms
-
-pub covers-trans : (a b c : List (Option ℕ)) → Covers a b → Covers b c → Covers a c
-unfolding Covers
-covers-trans [] [] c h k = k
-covers-trans [] (y ∷ b) c h k = absurd h
-covers-trans (x ∷ a) [] c h k = absurd h
-covers-trans (x ∷ a) (none ∷ b) [] h k = absurd k
-covers-trans (x ∷ a) (some y ∷ b) [] h k = absurd k
-covers-trans (none ∷ a) (none ∷ b) (z ∷ c) h k = covers-trans a b c h k
-covers-trans (none ∷ a) (some y ∷ b) (none ∷ c) h k = absurd k
-covers-trans (none ∷ a) (some y ∷ b) (some z ∷ c) h k = covers-trans a b c h k
-covers-trans (some x ∷ a) (none ∷ b) (z ∷ c) h k = absurd h
-covers-trans (some x ∷ a) (some y ∷ b) (none ∷ c) h k = absurd k
-covers-trans (some x ∷ a) (some y ∷ b) (some z ∷ c) h k = covers-trans a b c h k
-
-pub covers-append : (a c b d : List (Option ℕ)) → Covers a c → Covers b d → Covers (a ++ b) (c ++ d)
-unfolding Covers
-covers-append [] [] b d h k = k
-covers-append [] (y ∷ c) b d h k = absurd h
-covers-append (x ∷ a) [] b d h k = absurd h
-covers-append (none ∷ a) (y ∷ c) b d h k = covers-append a c b d h k
-covers-append (some x ∷ a) (none ∷ c) b d h k = absurd h
-covers-append (some x ∷ a) (some y ∷ c) b d h k = covers-append a c b d h k
-
-covers-none : (k : ℕ) (cs : List (Option ℕ)) → length cs ≡ k → Covers (replicate k none) cs
-unfolding Covers
-covers-none zero [] e = tt
-covers-none zero (c ∷ cs) e = absurd (omega (arith, e))
-covers-none (suc k) [] e = absurd (omega (arith, e))
-covers-none (suc k) (c ∷ cs) e = covers-none k cs (omega (arith, e))
-
-covers-written : (a c : List ℕ) → length a ≡ length c → Covers (written a) (written c)
-unfolding Covers written
-covers-written [] [] e = tt
-covers-written [] (y ∷ c) e = absurd (omega (arith, e))
-covers-written (x ∷ a) [] e = absurd (omega (arith, e))
-covers-written (x ∷ a) (y ∷ c) e = covers-written a c (omega (arith, e))
-
-written-length : (l : List ℕ) → length (written l) ≡ length l
-unfolding written
-written-length [] = refl
-written-length (x ∷ l) = ap suc (written-length l)
-
-pub header-length : (b : Block) → length (header b) ≡ 8
-unfolding header
-header-length b = refl
-
--- zeros in the places where a mask writes
-unfoldable zeroed : List (Option ℕ) → List (Option ℕ)
-zeroed [] = []
-zeroed (none ∷ ms) = none ∷ zeroed ms
-zeroed (some y ∷ ms) = some 0 ∷ zeroed ms
-
-zeroed-append : (a b : List (Option ℕ)) → zeroed (a ++ b) ≡ zeroed a ++ zeroed b
-unfolding zeroed
-zeroed-append [] b = refl
-zeroed-append (none ∷ a) b = ap (λ (r : List (Option ℕ)). none ∷ r) (zeroed-append a b)
-zeroed-append (some y ∷ a) b = ap (λ (r : List (Option ℕ)). some 0 ∷ r) (zeroed-append a b)
-
-zeroed-none : (k : ℕ) → zeroed (replicate k none) ≡ replicate k none
-unfolding zeroed
-zeroed-none zero = refl
-zeroed-none (suc k) = ap (λ (r : List (Option ℕ)). none ∷ r) (zeroed-none k)
-
-mask-blank : (bs : List Block) → mask blank bs ≡ zeroed (mask header bs)
-unfolding mask zeroed written header le32
-mask-blank [] = refl
-mask-blank (b ∷ bs) =
-    sym (zeroed-append (written (header b) ++ replicate (b .size - 8) none) (mask header bs)
-    ∙ (λ i. zeroed-append (written (header b)) (replicate (b .size - 8) none) i ++ sym (mask-blank bs) i)
-    ∙ ap (λ (r : List (Option ℕ)). (zeroed (written (header b)) ++ r) ++ mask blank bs) (zeroed-none (b .size - 8)))
-
--- zeros where zeros are
-zeroed-again : (ms cs : List (Option ℕ)) (l : List ℕ) → Covers ms cs → overlay (zeroed ms) (overlay (zeroed cs) l) ≡ overlay (zeroed cs) l
-unfolding overlay Covers zeroed
-zeroed-again [] cs l h = refl
-zeroed-again (m ∷ ms) [] l h = absurd h
-zeroed-again (none ∷ ms) (none ∷ cs) [] h = refl
-zeroed-again (none ∷ ms) (some z ∷ cs) [] h = refl
-zeroed-again (some y ∷ ms) (none ∷ cs) l h = absurd h
-zeroed-again (some y ∷ ms) (some z ∷ cs) [] h = refl
-zeroed-again (none ∷ ms) (none ∷ cs) (x ∷ l) h = ap (λ (r : List ℕ). x ∷ r) (zeroed-again ms cs l h)
-zeroed-again (none ∷ ms) (some z ∷ cs) (x ∷ l) h = ap (λ (r : List ℕ). 0 ∷ r) (zeroed-again ms cs l h)
-zeroed-again (some y ∷ ms) (some z ∷ cs) (x ∷ l) h = ap (λ (r : List ℕ). 0 ∷ r) (zeroed-again ms cs l h)
-
-covers-zeroed : (ms : List (Option ℕ)) → Covers ms (zeroed ms) × Covers (zeroed ms) ms
-unfolding Covers zeroed
-covers-zeroed [] = (tt, tt)
-covers-zeroed (none ∷ ms) = covers-zeroed ms
-covers-zeroed (some y ∷ ms) = covers-zeroed ms
-
 -- ---- lists of blocks, one finer than the other
 
 -- news has a header wherever olds has one
@@ -209,7 +85,7 @@ abbrev pub Finer : List Block → List Block → Type 0
 Finer olds news = Covers (mask header olds) (mask header news)
 
 pub finer-refl : (bs : List Block) → Finer bs bs
-finer-refl bs = covers-refl (mask header bs)
+finer-refl bs = over-same (mask header bs)
 
 pub finer-trans : (xs ys zs : List Block) → Finer xs ys → Finer ys zs → Finer xs zs
 finer-trans xs ys zs h k = covers-trans (mask header xs) (mask header ys) (mask header zs) h k
@@ -218,22 +94,30 @@ finer-trans xs ys zs h k = covers-trans (mask header xs) (mask header ys) (mask 
 finer-swap : (b c : Block) (bs cs : List Block) → b .size ≡ c .size → Finer bs cs → Finer (b ∷ bs) (c ∷ cs)
 unfolding mask
 finer-swap b c bs cs e h =
-    let one : Covers (written (header b) ++ replicate (b .size - 8) none) (written (header c) ++ replicate (c .size - 8) none) =
-    covers-append (written (header b)) (written (header c)) (replicate (b .size - 8) none) (replicate (c .size - 8) none)
-    (covers-written (header b) (header c) (header-length b ∙ sym (header-length c))) (rw e (covers-refl (replicate (c .size - 8) none))) in
-    covers-append (written (header b) ++ replicate (b .size - 8) none) (written (header c) ++ replicate (c .size - 8) none) (mask header bs) (mask header cs) one h
+    let wb = written (header b) in
+    let wc = written (header c) in
+    let k : length wb ≡ length wc = mark-length b ∙ sym (mark-length c) in
+    let one : Covers (wb ++ replicate (b .size - 8) none) (wc ++ replicate (c .size - 8) none) =
+    covers-append wb wc (replicate (b .size - 8) none) (replicate (c .size - 8) none) k
+    (over-written (header c) wb (mark-length b ∙ sym (header-length c))) (rw e (over-same (replicate (c .size - 8) none))) in
+    covers-append (wb ++ replicate (b .size - 8) none) (wc ++ replicate (c .size - 8) none) (mask header bs) (mask header cs)
+    (simp (length-append, length-replicate, e, k)) one h
 
 -- two blocks in the place of one
 finer-split : (b c d : Block) (bs : List Block) → 8 ≤ c .size → 8 ≤ d .size → c .size + d .size ≡ b .size → Finer (b ∷ bs) (c ∷ d ∷ bs)
 unfolding mask
 finer-split b c d bs hc hd e =
-    let tail : List (Option ℕ) = written (header d) ++ replicate (d .size - 8) none in
-    let mid : List (Option ℕ) = replicate (c .size - 8) none ++ tail in
-    let len : length mid ≡ b .size - 8 = simp (length-append, length-replicate, written-length, header-length) (omega (arith, hc, hd, e)) in
-    let one : Covers (written (header b) ++ replicate (b .size - 8) none) (written (header c) ++ mid) =
-    covers-append (written (header b)) (written (header c)) (replicate (b .size - 8) none) mid
-    (covers-written (header b) (header c) (header-length b ∙ sym (header-length c))) (covers-none (b .size - 8) mid len) in
-    simp append-assoc (simp append-assoc at (covers-append (written (header b) ++ replicate (b .size - 8) none) (written (header c) ++ mid) (mask header bs) (mask header bs) one (covers-refl (mask header bs))))
+    let wb = written (header b) in
+    let wc = written (header c) in
+    let inner : List (Option ℕ) = replicate (c .size - 8) none ++ (written (header d) ++ replicate (d .size - 8) none) in
+    let len : length inner ≡ b .size - 8 = simp (length-append, length-replicate, written-length, header-length) (omega (arith, hc, hd, e)) in
+    let k : length wb ≡ length wc = mark-length b ∙ sym (mark-length c) in
+    let one : Covers (wb ++ replicate (b .size - 8) none) (wc ++ inner) =
+    covers-append wb wc (replicate (b .size - 8) none) inner k (over-written (header c) wb (mark-length b ∙ sym (header-length c))) (over-none (b .size - 8) inner len) in
+    let all : Covers ((wb ++ replicate (b .size - 8) none) ++ mask header bs) ((wc ++ inner) ++ mask header bs) =
+    covers-append (wb ++ replicate (b .size - 8) none) (wc ++ inner) (mask header bs) (mask header bs)
+    (length-append wb (replicate (b .size - 8) none) ∙ (simp (length-append, length-replicate, written-length, header-length) (omega (arith, hc, hd, e)))) one (over-same (mask header bs)) in
+    simp append-assoc (simp append-assoc at all)
 
 module _ (n t : ℕ) (n8 : 8 ≤ n) where
   carve-finer : (b : Block) (bs : List Block) → n ≤ b .size → Finer (b ∷ bs) (carve n t b bs)
@@ -250,11 +134,6 @@ module _ (n t : ℕ) (n8 : 8 ≤ n) where
       by (holds n b)
       (λ h. rw h (carve-finer b bs (open-holds n b h .enough)))
       (λ h. rw h (finer-swap b b bs (granted n t bs) refl (granted-finer bs)))
-
--- every block has room for a header
-unfoldable pub Roomy : List Block → Type 0
-Roomy [] = Unit {0}
-Roomy (b ∷ bs) = (8 ≤ b .size) × Roomy bs
 
 pub tiled-roomy : (tasks : ℕ) (p : Bool) (bs : List Block) → tiled tasks p bs ≡ true → Roomy bs
 unfolding Roomy
@@ -304,22 +183,25 @@ erase-length bs l = overlay-length (mask blank bs) l
 
 pub render-render : (olds news : List Block) (l : List ℕ) → Finer olds news → render news (render olds l) ≡ render news l
 unfolding render
-render-render olds news l h = overlay-over (mask header olds) (mask header news) l h
+render-render olds news l h = overlay-overlay (mask header news) (mask header olds) l ∙ ap (λ (m : List (Option ℕ)). overlay m l) h
 
 -- where every old header is written over, nothing need be erased
 pub render-erase : (olds news : List Block) (l : List ℕ) → Finer olds news → render news (erase olds l) ≡ render news l
 unfolding render erase
 render-erase olds news l h =
-    overlay-over (mask blank olds) (mask header news) l
-    (covers-trans (mask blank olds) (mask header olds) (mask header news) (rw (mask-blank olds) (covers-zeroed (mask header olds) .1)) h)
+    overlay-overlay (mask header news) (mask blank olds) l
+    ∙ ap (λ (m : List (Option ℕ)). overlay m l) (rw (mask-blank olds) (covers-zeroed (mask header olds) (mask header news) h))
 
 pub erase-render : (bs : List Block) (l : List ℕ) → erase bs (render bs l) ≡ erase bs l
 unfolding erase render
-erase-render bs l = overlay-over (mask header bs) (mask blank bs) l (rw (mask-blank bs) (covers-zeroed (mask header bs) .0))
+erase-render bs l =
+    overlay-overlay (mask blank bs) (mask header bs) l ∙ ap (λ (m : List (Option ℕ)). overlay m l) (rw (mask-blank bs) (zeroed-covers (mask header bs)))
 
 pub erase-erase : (bs cs : List Block) (l : List ℕ) → Finer bs cs → erase bs (erase cs l) ≡ erase cs l
 unfolding erase
-erase-erase bs cs l h = rw (mask-blank bs, mask-blank cs) (zeroed-again (mask header bs) (mask header cs) l h)
+erase-erase bs cs l h =
+    overlay-overlay (mask blank bs) (mask blank cs) l
+    ∙ ap (λ (m : List (Option ℕ)). overlay m l) (rw (mask-blank bs, mask-blank cs) (zeroed-under (mask header bs) (mask header cs) h))
 
 -- ---- block list from bytes, and bytes from block list
 

@@ -1,6 +1,7 @@
 pub mod Tests
 pub mod Blocks
 pub mod Waiting
+pub mod Masks
 pub mod Bytes
 pub mod Places
 pub mod Store
