@@ -7,7 +7,7 @@ use mathlib.Core.Option.{Option, none, some}
 use native.Mathlib.Omega.{arith}
 use native.Mathlib.Nat.{div-div-eq-div-mul, mod-eq-of-lt, add-zero, add-assoc, suc-sub-suc, sub-zero}
 use lib.Arith.{digits-mod, digits-div}
-use lib.ListN.{length, getD, take, drop, replicate, length-append, length-replicate, length-drop, take-append-drop}
+use lib.ListN.{length, getD, take, drop, replicate, length-append, length-replicate, length-drop, take-append-drop, drop-of-length-le}
 use lib.Seq.{length-take-le, drop-at, drop-drop, getD-drop}
 use lib.Dec.{leb, eqb}
 use borrow.Author.Tests.{leb-true}
@@ -65,6 +65,12 @@ drop-pred : (n x : ℕ) (l : List ℕ) → 0 < n → drop (n - 1) l ≡ drop n (
 drop-pred zero x l h = absurd (omega arith)
 drop-pred (suc n) x l h = ap (λ (k : ℕ). drop k l) (suc-sub-suc n 0 ∙ sub-zero n)
 
+-- where a block is to begin there is one, whatever its size
+pub first-block : (l : List ℕ) → 0 < length l → (r : List Block) × (blocksOf l ≡ headerAt l 0 ∷ r)
+unfolding blocksFrom
+first-block [] h = absurd (omega arith)
+first-block (x ∷ l) h = (blocksFrom (u32At (x ∷ l) 0 - 1) l, refl)
+
 -- the first block, and those from its end on
 pub blocks-first : (l : List ℕ) → 0 < length l → 0 < u32At l 0 → blocksOf l ≡ headerAt l 0 ∷ blocksOf (drop (u32At l 0) l)
 unfolding blocksFrom
@@ -72,11 +78,27 @@ blocks-first [] h k = absurd (omega arith)
 blocks-first (x ∷ l) h k = ap (λ (r : List Block). headerAt (x ∷ l) 0 ∷ r) (blocks-skip (u32At (x ∷ l) 0 - 1) l ∙ ap blocksOf (drop-pred (u32At (x ∷ l) 0) x l k))
 
 pub u32-drop : (p q : ℕ) (l : List ℕ) → u32At (drop p l) q ≡ u32At l (p + q)
-unfolding u32At
 u32-drop p q l = simp (getD-drop, add-assoc)
 
 pub header-drop : (p : ℕ) (l : List ℕ) → headerAt (drop p l) 0 ≡ headerAt l p
 header-drop p l = λ i. block ((u32-drop p 0 l ∙ ap (u32At l) (add-zero p)) i) (u32-drop p 4 l i)
+
+-- the same from the place p on
+module _ (p : ℕ) (l : List ℕ) where
+  pub first-at : p < length l → (r : List Block) × (blocksOf (drop p l) ≡ headerAt l p ∷ r)
+  first-at h = let f = first-block (drop p l) (rw (length-drop p l) (omega arith)) in (f .0, f .1 ∙ ap (λ (b : Block). b ∷ f .0) (header-drop p l))
+
+  pub blocks-at : p < length l → 0 < u32At l p → blocksOf (drop p l) ≡ headerAt l p ∷ blocksOf (drop (p + u32At l p) l)
+  blocks-at h k =
+      let e = header-drop p l in
+      let ez : u32At (drop p l) 0 ≡ u32At l p = ap (λ (b : Block). b .size) e in
+      blocks-first (drop p l) (rw (length-drop p l) (omega arith)) (rw ez k)
+      ∙ (λ i. e i ∷ blocksOf (drop (ez i) (drop p l)))
+      ∙ ap (λ (r : List ℕ). headerAt l p ∷ blocksOf r) (drop-drop (u32At l p) p l)
+
+  pub blocks-end : length l ≤ p → blocksOf (drop p l) ≡ []
+  unfolding blocksFrom
+  blocks-end h = ap blocksOf (drop-of-length-le l h)
 
 -- ---- lists of blocks, one finer than the other
 
@@ -235,7 +257,7 @@ unfolding render mask overlay
 render-nil l = refl
 
 header-read : (b : Block) (l : List ℕ) → b .size < 4294967296 → b .owner < 4294967296 → headerAt (header b ++ l) 0 ≡ b
-unfolding header le32 u32At
+unfolding header le32
 header-read b l hs ho = λ i. block (le32-number (b .size) hs i) (le32-number (b .owner) ho i)
 
 blocks-cons : (b : Block) (m r : List ℕ) → 0 < b .size → b .size < 4294967296 → b .owner < 4294967296 → 8 + length m ≡ b .size → blocksOf (header b ++ (m ++ r)) ≡ b ∷ blocksOf r
@@ -271,7 +293,7 @@ abbrev pub Bytes : List ℕ → Type 0
 Bytes l = (i : ℕ) → getD l i 0 < 256
 
 header-here : (l : List ℕ) → 8 ≤ length l → Bytes l → header (headerAt l 0) ≡ take 8 l
-unfolding header u32At
+unfolding header
 header-here [] h s = absurd (omega arith)
 header-here (a ∷ []) h s = absurd (omega arith)
 header-here (a ∷ b ∷ []) h s = absurd (omega arith)
@@ -290,12 +312,6 @@ rejoin l h r n k e f =
     let d : drop (n - 8) (drop 8 l) ≡ drop n l = drop-drop (n - 8) 8 l ∙ ap (λ (j : ℕ). drop j l) m in
     let g : take (n - 8) (drop 8 l) ++ r ≡ drop 8 l = ap (λ (x : List ℕ). take (n - 8) (drop 8 l) ++ x) (f ∙ sym d) ∙ take-append-drop (n - 8) (drop 8 l) in
     (λ i. e i ++ g i) ∙ take-append-drop 8 l
-
--- where a block is to begin there is one, whatever its size
-pub first-block : (l : List ℕ) → 0 < length l → (r : List Block) × (blocksOf l ≡ headerAt l 0 ∷ r)
-unfolding blocksFrom
-first-block [] h = absurd (omega arith)
-first-block (x ∷ l) h = (blocksFrom (u32At (x ∷ l) 0 - 1) l, refl)
 
 render-list : (tasks : ℕ) (p : Bool) (bs : List Block) (l : List ℕ) → blocksOf l ≡ bs → tiled tasks p bs ≡ true → total bs ≡ length l → Bytes l → render bs l ≡ l
 unfolding total

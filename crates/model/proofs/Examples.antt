@@ -11,7 +11,7 @@ use lib.IntN.{pos}
 use borrow.Author.Tests.{ltb-true}
 use Rattle.model.specs.Limits.{minus, e-ok, waiting, e-sys, e-par}
 use Rattle.model.specs.Blocks.{total, tiled, fits, firstFit, carve, granted, liveAt, join, freed, sumFree, greatestFree}
-use Rattle.model.specs.Bytes.{u32At, blocksFrom, le32, header, overlay, written, mask, render, erase}
+use Rattle.model.specs.Bytes.{blocksFrom, le32, header, overlay, written, mask, render, erase}
 use Rattle.model.specs.Waiting.{waits, remove, headTask, insert, blocked, leads, expired, remaining}
 use Rattle.model.specs.Rules.{queued, base}
 use Rattle.model.specs.Calls.{Request, get, tick, leave, blocks, serve, headStuck, sound, tests, act}
@@ -27,7 +27,7 @@ use Rattle.model.proofs.Theorems.{base-cancel-no-trace, base-release-un
 -- ---- the table of document 01's examples
 
 pub table-holds : playedAll table ≡ table
-unfolding total tiled fits firstFit carve granted liveAt join freed sumFree greatestFree u32At blocksFrom le32 header overlay written mask render erase waits remove headTask insert blocked leads expired remaining queued base leave serve headStuck sound tests act pad used allUnused tidy view soundBy performBy create linesFrom stateFrom playedAll
+unfolding total tiled fits firstFit carve granted liveAt join freed sumFree greatestFree blocksFrom le32 header overlay written mask render erase waits remove headTask insert blocked leads expired remaining queued base leave serve headStuck sound tests act pad used allUnused tidy view soundBy performBy create linesFrom stateFrom playedAll
 table-holds = refl
 
 -- ---- bytes, by a test
@@ -75,7 +75,7 @@ pub record Met : Type 0 where
   pub refused-spoiled : refusedBy (perform base tick spoiled .said .code) ≡ some e-sys
 
 pub met : Met
-unfolding total tiled fits firstFit carve granted liveAt join freed sumFree greatestFree u32At blocksFrom le32 header overlay written mask render erase waits remove headTask insert blocked leads expired remaining queued base leave serve headStuck sound tests act pad used allUnused tidy view soundBy performBy create stateFrom refusedBy below
+unfolding total tiled fits firstFit carve granted liveAt join freed sumFree greatestFree blocksFrom le32 header overlay written mask render erase waits remove headTask insert blocked leads expired remaining queued base leave serve headStuck sound tests act pad used allUnused tidy view soundBy performBy create stateFrom refusedBy below
 met =
     record {
       valid = refl;

@@ -8,7 +8,7 @@ use Rattle.model.specs.Blocks.{Block, block}
 -- ---- the block list of bytes
 
 -- the number in four bytes from the place p on, lowest first
-unfoldable pub u32At : List ℕ → ℕ → ℕ
+abbrev pub u32At : List ℕ → ℕ → ℕ
 u32At bytes p = getD bytes p 0 + 256 * getD bytes (p + 1) 0 + 65536 * getD bytes (p + 2) 0 + 16777216 * getD bytes (p + 3) 0
 
 -- the header at the place p: the size, then the owner

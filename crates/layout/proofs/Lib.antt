@@ -1,0 +1,4 @@
+pub mod Sound
+pub mod Writing
+pub mod Walking
+pub mod Surveying
