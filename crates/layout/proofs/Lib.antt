@@ -2,3 +2,5 @@ pub mod Sound
 pub mod Writing
 pub mod Walking
 pub mod Surveying
+pub mod Granting
+pub mod Releasing

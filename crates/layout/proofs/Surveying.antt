@@ -1,20 +1,19 @@
 -- A walk that stops and one that goes on from there tell what any bytes are found to be. Assumes nothing.
-use Prim.Native.Nat.{ℕ, _+_, _-_, _%_, _≤_, _<_, max}
+use Prim.Native.Nat.{ℕ, _+_, _%_, _≤_, _<_, max}
 use mathlib.Core.Path.{_≡_, refl, sym, ap, subst, _∙_}
 use mathlib.Core.Bool.{Bool, true, false, not, cond, _&&_, and-true}
 use mathlib.Core.List.{List, [], _∷_}
 use native.Mathlib.Omega.{arith}
 use native.Mathlib.Nat.{zero-add, zero-max}
 use lib.ListN.{length, drop}
-use lib.Dec.{leb, ltb, eqb}
-use borrow.Author.Tests.{leb-true, leb-false, eqb-true, eqb-false, le-leb, lt-leb, eq-eqb, ne-eqb}
+use lib.Dec.{leb, eqb}
+use borrow.Author.Tests.{leb-true, leb-false, eqb-true, le-leb, lt-leb, eq-eqb, ne-eqb}
 use Rattle.model.specs.Limits.{most-tasks, longest-pool}
-use Rattle.model.specs.Blocks.{Block, block, isFree, total, okBlock, tiled, holds, room, sumFree, greatestFree}
-use Rattle.model.specs.Bytes.{u32At, headerAt, blocksOf}
-use Rattle.model.specs.Rules.{okLong}
-use Rattle.model.proofs.Tests.{by, clash, and-l, and-r, and-f-r, not-t}
+use Rattle.model.specs.Blocks.{Block, isFree, total, okBlock, tiled, sumFree, greatestFree}
+use Rattle.model.specs.Bytes.{blocksOf}
+use Rattle.model.proofs.Tests.{by, clash, and-l, and-r, and-f-r}
 use Rattle.model.proofs.Blocks.{tile}
-use Rattle.model.proofs.Bytes.{first-at, blocks-at}
+use Rattle.model.proofs.Bytes.{tail-at}
 use Rattle.layout.specs.declared.Target.{Target}
 use Rattle.layout.specs.declared.Target.the-variants as target
 use Rattle.layout.specs.declared.Found.{Found}
@@ -25,7 +24,7 @@ use Rattle.layout.specs.declared.Stop.the-variants.{Here, End, Bad}
 use Rattle.layout.specs.declared.Surveyed.{Surveyed}
 use Rattle.layout.specs.Layout.{soundPool, seek, sought, refused, surveyOf, pass, behind, wanted, stands, walk, walkAt, needOf, placeOf, spotOf}
 use Rattle.layout.proofs.Sound.{Length}
-use Rattle.layout.proofs.Walking.{open-block, open-stands, close-stands, pass-at, pass-behind, pass-sum}
+use Rattle.layout.proofs.Walking.{open-block, open-stands, pass-at, pass-behind, pass-sum}
 
 and-swap : (a b : Bool) → a && b ≡ b && a
 and-swap true true = refl
@@ -152,16 +151,6 @@ module _ (need place n : ℕ) (hn : n < need) (hp : n ≤ place) where
 
 -- ---- a walk that seeks, and one from there on with nothing sought, are one walk with nothing sought
 
--- where a block lies at a place, what follows it lies behind it
-tail-at : (s : List ℕ) (p : ℕ) (b : Block) (bs : List Block) → blocksOf (drop p s) ≡ b ∷ bs → p < length s → 12 ≤ b .size → blocksOf (drop (p + b .size) s) ≡ bs
-tail-at s p b bs e h k =
-    let f = first-at p s h in
-    let hb : headerAt s p ≡ b = cc (f .1) in
-    let ez : u32At s p ≡ b .size = ap (λ (x : Block). x .size) hb in
-    let t = blocks-at p s h (rw ez (omega arith)) in
-    let u : blocksOf (drop (p + u32At s p) s) ≡ bs = cc in
-    rw (← ez) u
-
 module _ (s : List ℕ) (need place need′ place′ : ℕ) (hn : length s < need′) (hp : length s ≤ place′) where
   resumed : (bs : List Block) (v : Seen) → blocksOf (drop (v .at) s) ≡ bs
       → ended (walk need′ place′ (length s) v bs) ≡ ended (resume (walkAt need′ place′ s) (walk need place (length s) v bs))
@@ -178,7 +167,7 @@ module _ (s : List ℕ) (need place need′ place′ : ℕ) (hn : length s < nee
       by (leb (v .at + b .size) (length s))
       (λ k. let l = leb-true (v .at + b .size) (length s) k in
       ap ended (walk-one need′ place′ (length s) hn hp bs v b g (o .ahead) (omega arith))
-      ∙ resumed bs (pass b v) (rw (pass-at v (b .size) (b .owner)) (tail-at s (v .at) b bs e (omega (arith, o .ahead)) (f .least)))
+      ∙ resumed bs (pass b v) (rw (pass-at v (b .size) (b .owner)) (tail-at (v .at) s b bs e (omega (arith, o .ahead)) (omega (arith, f .least))))
       ∙ ap (λ (x : Stop). ended (resume (walkAt need′ place′ s) x)) (sym p))
       (λ k. let l = leb-false (v .at + b .size) (length s) k in
       walk-long need′ place′ (length s) bs v b l

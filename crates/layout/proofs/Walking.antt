@@ -1,20 +1,19 @@
 -- One turn of the walk over headers: what the block at the place seen last makes of it. Assumes nothing.
 use Prim.Native.Nat.{ℕ, _+_, _-_, _%_, _≤_, _<_, max}
 use mathlib.Core.Path.{_≡_, refl, sym, ap, _∙_}
-use mathlib.Core.Bool.{Bool, true, false, not, cond, _&&_}
-use mathlib.Core.List.{List, [], _∷_}
+use mathlib.Core.Bool.{true, false, not, _&&_}
+use mathlib.Core.List.{List, _∷_}
 use native.Mathlib.Omega.{arith}
 use native.Mathlib.Nat.{add-zero, max-zero}
 use lib.ListN.{length, drop}
 use lib.Dec.{leb, ltb, eqb}
 use borrow.Author.Tests.{leb-true, eqb-true, ltb-true, ltb-false, le-leb, lt-leb, eq-eqb, ne-eqb, lt-ltb, le-ltb}
 use Rattle.model.specs.Limits.{most-tasks}
-use Rattle.model.specs.Blocks.{Block, block, isFree, okBlock, room}
+use Rattle.model.specs.Blocks.{Block, block, isFree, okBlock}
 use Rattle.model.specs.Bytes.{u32At, headerAt, blocksOf}
 use Rattle.model.proofs.Tests.{by, and-l, and-r, and-i, and-f-r}
 use Rattle.model.proofs.Bytes.{first-at, blocks-at, blocks-end}
 use Rattle.layout.specs.declared.Seen.{Seen}
-use Rattle.layout.specs.declared.Stop.{Stop}
 use Rattle.layout.specs.declared.Stop.the-variants.{Here, End, Bad}
 use Rattle.layout.specs.Layout.{pass, behind, wanted, stands, walk, walkAt}
 

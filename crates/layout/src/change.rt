@@ -50,8 +50,11 @@ pub fn release_at(s: &mut [u8], spot: Spot)
     let first = spot.free.0;
     let size = header::read_u32(s, at);
     let behind = swallow(s, at + size);
+    let total = at - first + size + behind;
     if first < at {
         header::write_header(s, HeaderPlace(at), 0, 0);
+        header::write_header(s, HeaderPlace(first), total, 0);
+    } else {
+        header::write_header(s, HeaderPlace(first), total, 0);
     }
-    header::write_header(s, HeaderPlace(first), at - first + size + behind, 0);
 }

@@ -1,9 +1,9 @@
 // The pool's bytes: headers, the walk over them, and the changes that grant and release make.
 use model::HeaderPlace;
 
+pub mod change;
 pub mod header;
 pub mod walk;
-pub mod change;
 
 // What a walk is to find: the first free run of at least so many bytes, the live block at a place, or nothing.
 pub enum Target {

@@ -3,7 +3,7 @@ use Prim.Native.Nat.{ℕ, zero, suc, _+_, _-_, _*_, _/_, _%_, _≤_, _<_}
 use mathlib.Core.Path.{_≡_, refl, sym, ap, _∙_}
 use mathlib.Core.Bool.{Bool, true, false, _&&_}
 use mathlib.Core.List.{List, [], _∷_, _++_, append-assoc}
-use mathlib.Core.Option.{Option, none, some}
+use mathlib.Core.Option.{Option, none}
 use native.Mathlib.Omega.{arith}
 use native.Mathlib.Nat.{div-div-eq-div-mul, mod-eq-of-lt, add-zero, add-assoc, suc-sub-suc, sub-zero}
 use lib.Arith.{digits-mod, digits-div}
@@ -96,9 +96,29 @@ module _ (p : ℕ) (l : List ℕ) where
       ∙ (λ i. e i ∷ blocksOf (drop (ez i) (drop p l)))
       ∙ ap (λ (r : List ℕ). headerAt l p ∷ blocksOf r) (drop-drop (u32At l p) p l)
 
+  -- a block that lies there, and those behind it
+  pub header-at : (b : Block) (bs : List Block) → blocksOf (drop p l) ≡ b ∷ bs → p < length l → headerAt l p ≡ b
+  header-at b bs e h = let f = first-at h in cc (f .1)
+
+  pub tail-at : (b : Block) (bs : List Block) → blocksOf (drop p l) ≡ b ∷ bs → p < length l → 0 < b .size → blocksOf (drop (p + b .size) l) ≡ bs
+  tail-at b bs e h k =
+      let ez : u32At l p ≡ b .size = ap (λ (x : Block). x .size) (header-at b bs e h) in
+      let t = blocks-at h (rw ez k) in
+      let u : blocksOf (drop (p + u32At l p) l) ≡ bs = cc in
+      rw (← ez) u
+
   pub blocks-end : length l ≤ p → blocksOf (drop p l) ≡ []
   unfolding blocksFrom
   blocks-end h = ap blocksOf (drop-of-length-le l h)
+
+-- where the blocks xs lie first, the others lie behind them
+pub split-at : (xs ys : List Block) (p : ℕ) (l : List ℕ) → blocksOf (drop p l) ≡ xs ++ ys → Roomy xs → p + total xs ≤ length l → blocksOf (drop (p + total xs) l) ≡ ys
+unfolding Roomy total
+split-at [] ys p l e r h = rw (add-zero p) e
+split-at (b ∷ xs) ys p l e r h =
+    let t = tail-at p l b (xs ++ ys) e (omega (arith, r .0)) (omega (arith, r .0)) in
+    let s : p + (b .size + total xs) ≡ p + b .size + total xs = omega arith in
+    rw s (split-at xs ys (p + b .size) l t (r .1) (omega arith))
 
 -- ---- lists of blocks, one finer than the other
 
