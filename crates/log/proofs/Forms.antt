@@ -1,0 +1,100 @@
+-- Laws of the kinds of record: a get's limit and its field, a kind's number, and the record made of a kind's fields. Assumes nothing.
+use Prim.Native.Nat.{ℕ, zero, suc, _-_, _<_, _≤_}
+use lib.IntN.{ℤ, pos, negsuc}
+use mathlib.Core.Path.{_≡_, refl, sym, ap, _∙_}
+use mathlib.Core.List.{List, [], _∷_}
+use mathlib.Core.Logic.{⊎-elim}
+use native.Mathlib.Omega.{arith}
+use lib.ListN.{length, take, getD, List·getD-eq-default}
+use borrow.Author.Tests.{le-leb, lt-leb}
+use Rattle.numbers.proofs.Decode.{side}
+use Rattle.log.specs.declared.Record.{Record}
+use Rattle.log.specs.declared.Record.the-variants.{Get, Poll, Release, Cancel, Tick}
+use Rattle.log.specs.declared.Kind.{Kind}
+use Rattle.log.specs.declared.Kind.the-variants as kind
+use Rattle.log.specs.declared.Read.the-variants.{Taken, Bad}
+use Rattle.log.specs.Record.{limitBound, limitOf, limitField, Limit, Limited, fieldsOf, kinds, kindOf, fieldCount, recordFrom}
+
+-- a limit and its field
+pub limit-none : (field : ℕ) → field ≡ 0 → negsuc 0 ≡ limitOf field
+unfolding limitOf
+limit-none field h = rw h
+
+pub limit-some : (field : ℕ) → (field ≡ 0 → ⊥) → pos (field - 1) ≡ limitOf field
+unfolding limitOf
+limit-some zero h = absurd (h refl)
+limit-some (suc n) h = ap pos (omega arith)
+
+pub limit-field : (limit : ℤ) → Limit limit → (limitOf (limitField limit) ≡ limit) × (limitField limit ≤ limitBound)
+unfolding limitOf limitField
+limit-field (pos n) h = (refl, omega arith)
+limit-field (negsuc n) h = (rw h, omega arith)
+
+field-limit : (field : ℕ) → field ≤ limitBound → (limitField (limitOf field) ≡ field) × Limit (limitOf field)
+unfolding limitOf limitField
+field-limit zero h = (refl, refl)
+field-limit (suc n) h = (refl, omega arith)
+
+pub get-limited : (task size limit n : ℕ) → limit ≤ limitBound → Taken (Get task size (limitOf limit)) n ≡ recordFrom kind.Get task size limit n
+get-limited task size limit n h = rw (le-leb limit limitBound h)
+
+pub get-refused : (task size limit n : ℕ) → limitBound < limit → Bad ≡ recordFrom kind.Get task size limit n
+get-refused task size limit n h = rw (lt-leb limit limitBound h)
+
+-- the numbers from 1 to 5 are those of the kinds that there are
+pub kind-unknown : (n : ℕ) → (0 < n → 5 < n) → kind.Unknown ≡ kindOf n
+kind-unknown zero h = refl
+kind-unknown (suc n) h = sym (List·getD-eq-default kinds kind.Unknown (h (omega arith)))
+
+pub count-few : (k : Kind) → fieldCount k ≤ 3
+count-few kind.Get = omega arith
+count-few kind.Poll = omega arith
+count-few kind.Release = omega arith
+count-few kind.Cancel = omega arith
+count-few kind.Tick = omega arith
+count-few kind.Unknown = omega arith
+
+pub not-taken : {A : Type 0} {r : Record} {n : ℕ} → Bad ≡ Taken r n → A
+not-taken e = let z : _≡_ {A = ℕ} 0 1 = cc in absurd (omega arith)
+
+-- the numbers of the record r that was made of a kind's number and of its fields among a, b and c
+pub record Made (number a b c after : ℕ) (r : Record) (n : ℕ) : Type 0 where
+  pub numbers : fieldsOf r ≡ number ∷ take (fieldCount (kindOf number)) (a ∷ b ∷ c ∷ [])
+  pub limited : Limited r
+  pub known : number ≤ 5
+  pub place : after ≡ n
+
+module _ (a b c after : ℕ) (r : Record) (n : ℕ) where
+  made-as : (number : ℕ) (x : Record) → fieldsOf x ≡ number ∷ take (fieldCount (kindOf number)) (a ∷ b ∷ c ∷ []) → Limited x → number ≤ 5
+      → Taken x after ≡ Taken r n → Made number a b c after r n
+  made-as number x f l k e = let q : x ≡ r = cc in rw (← q) (record { numbers = f; limited = l; known = k; place = cc })
+
+  made-get : recordFrom kind.Get a b c after ≡ Taken r n → Made 1 a b c after r n
+  unfolding fieldsOf
+  made-get e = ⊎-elim over within (side limitBound c)
+    where
+      over : limitBound < c → Made 1 a b c after r n
+      over h = not-taken (get-refused a b c after h ∙ e)
+
+      within : c ≤ limitBound → Made 1 a b c after r n
+      within h =
+          let l = field-limit c h in
+          made-as 1 (Get a b (limitOf c)) (rw (l .0)) (l .1) (omega arith) (get-limited a b c after h ∙ e)
+
+  pub made-inv : (number : ℕ) → recordFrom (kindOf number) a b c after ≡ Taken r n → Made number a b c after r n
+  unfolding fieldsOf
+  made-inv zero e = not-taken e
+  made-inv (suc zero) e = made-get e
+  made-inv (suc (suc zero)) e = made-as 2 (Poll a b) refl tt (omega arith) e
+  made-inv (suc (suc (suc zero))) e = made-as 3 (Release a) refl tt (omega arith) e
+  made-inv (suc (suc (suc (suc zero)))) e = made-as 4 (Cancel a) refl tt (omega arith) e
+  made-inv (suc (suc (suc (suc (suc zero))))) e = made-as 5 Tick refl tt (omega arith) e
+  made-inv (suc (suc (suc (suc (suc (suc k)))))) e = not-taken e
+
+-- a list of at most three elements by its elements
+pub take-three : (fs : List ℕ) → length fs ≤ 3 → take (length fs) (getD fs 0 0 ∷ getD fs 1 0 ∷ getD fs 2 0 ∷ []) ≡ fs
+take-three [] h = refl
+take-three (a ∷ []) h = refl
+take-three (a ∷ b ∷ []) h = refl
+take-three (a ∷ b ∷ c ∷ []) h = refl
+take-three (a ∷ b ∷ c ∷ d ∷ fs) h = absurd (omega arith)

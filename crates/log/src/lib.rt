@@ -1,0 +1,129 @@
+// The log of calls: first the pool's length, then records.
+use numbers::Number;
+ghost use mathlib.Core.Path.{_≡_};
+ghost use Prim.Native.Nat.{_≤_};
+ghost use Rattle.numbers.specs.Number.{numberOf};
+ghost use Rattle.log.specs.Record.{kindOf, fieldCount, limitOf, limitBound, recordFrom, recordOf};
+
+pub enum Record {
+    // task, size, limit: -1 is forever, 0 is a poll, above 0 are ticks
+    Get(u32, u32, i32),
+    // task, size
+    Poll(u32, u32),
+    // offset
+    Release(u32),
+    // task
+    Cancel(u32),
+    Tick,
+}
+
+// What stands at the start of the rest of a log.
+pub enum Read {
+    // a record, and the place after it
+    Taken(Record, usize),
+    End,
+    Bad,
+}
+
+// The kinds of record. Their numbers are 1 to 5 in this order.
+enum Kind {
+    Get,
+    Poll,
+    Release,
+    Cancel,
+    Tick,
+    Unknown,
+}
+
+// A limit field, which is the limit plus 1, is at most 2^31.
+const LIMIT_BOUND: u32 = 2147483648;
+
+// The pool's length, at the start of a log.
+pub fn read_length(log: &[u8]) -> Number
+    ensures { λ r. ⌜ r ≡ numberOf (now (log .entry)) ⌝ }
+{
+    numbers::read_number(log)
+}
+
+// The record at the start of the rest of a log.
+pub fn read_record(rest: &[u8]) -> Read
+    ensures { λ r. ⌜ r ≡ recordOf (now (rest .entry)) ⌝ }
+{
+    if rest.len() == 0 {
+        return Read::End;
+    }
+    let Number::Value(number, first) = numbers::read_number(rest) else {
+        return Read::Bad;
+    };
+    let kind = kind_of(number);
+    let count = field_count(kind);
+    let mut fields = [0u32; 3];
+    let mut at = first;
+    let mut i: usize = 0;
+    while i < count {
+        let Number::Value(v, n) = numbers::read_number(&rest[at..]) else {
+            return Read::Bad;
+        };
+        fields[i] = v;
+        at += n;
+        i += 1;
+    }
+    record_from(kind, fields[0], fields[1], fields[2], at)
+}
+
+fn kind_of(number: u32) -> Kind
+    ensures { λ r. ⌜ r ≡ kindOf number ⌝ }
+{
+    match number {
+        1 => Kind::Get,
+        2 => Kind::Poll,
+        3 => Kind::Release,
+        4 => Kind::Cancel,
+        5 => Kind::Tick,
+        _ => Kind::Unknown,
+    }
+}
+
+// How many fields follow a kind.
+fn field_count(kind: Kind) -> usize
+    ensures { λ r. ⌜ r ≡ fieldCount kind ⌝ }
+{
+    match kind {
+        Kind::Get => 3,
+        Kind::Poll => 2,
+        Kind::Release => 1,
+        Kind::Cancel => 1,
+        Kind::Tick => 0,
+        Kind::Unknown => 0,
+    }
+}
+
+// The record of a kind with the fields a, b and c, as many as the kind has, and the place after it.
+fn record_from(kind: Kind, a: u32, b: u32, c: u32, after: usize) -> Read
+    ensures { λ r. ⌜ r ≡ recordFrom kind a b c after ⌝ }
+{
+    match kind {
+        Kind::Get => {
+            if LIMIT_BOUND < c {
+                return Read::Bad;
+            }
+            Read::Taken(Record::Get(a, b, limit_of(c)), after)
+        }
+        Kind::Poll => Read::Taken(Record::Poll(a, b), after),
+        Kind::Release => Read::Taken(Record::Release(a), after),
+        Kind::Cancel => Read::Taken(Record::Cancel(a), after),
+        Kind::Tick => Read::Taken(Record::Tick, after),
+        Kind::Unknown => Read::Bad,
+    }
+}
+
+// The limit of a get, from its field.
+fn limit_of(field: u32) -> i32
+    requires { ⌜ field ≤ limitBound ⌝ }
+    ensures { λ r. ⌜ r ≡ limitOf field ⌝ }
+{
+    if field == 0 {
+        return -1;
+    }
+    (field - 1) as i32
+}

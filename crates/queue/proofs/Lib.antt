@@ -1,0 +1,4 @@
+pub mod Places
+pub mod Entries
+pub mod Time
+pub mod Examples

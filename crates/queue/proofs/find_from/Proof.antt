@@ -1,0 +1,47 @@
+-- `queue::find_from` meets its contract: none of the entries passed is the task's. Assumes nothing.
+use mathlib.Core.Path.{_≡_, refl, sym, _∙_}
+use Prim.Native.Nat.{_-_}
+use borrow.Author.Needs.{needs}
+use lib.ListN.{length, drop}
+use Rattle.model.specs.Limits.{most-tasks}
+use Rattle.model.specs.Places.{used}
+use Rattle.queue.specs.Entries.{foundFrom}
+use Rattle.queue.proofs.Places.{used-stop, used-end}
+use Rattle.queue.proofs.Entries.{found-stop, found-here, found-go}
+use Rattle.queue.proofs.find_from.Statement.{statement}
+use Rattle.queue.proofs.find_from.Tie as tie
+
+abbrev Inv-loop : tie.InvT-loop
+Inv-loop first task entries i₀ i = foundFrom first task (used (drop first entries)) ≡ foundFrom i task (used (drop i entries))
+
+abbrev μ-loop : tie.MeasureT-loop
+μ-loop first task entries i₀ i = most-tasks - i
+
+returns : tie.Need-returns Inv-loop μ-loop
+returns c =
+    let a = c .before .before .before .before in
+    let l = a .before .args .t1 in
+    sym (a .loop .inv ∙ found-stop l (a .loop .i) _ (used-stop l (a .loop .i) (c .if1 .taken)))
+
+returns-2 : tie.Need-returns-2 Inv-loop μ-loop
+returns-2 c =
+    let a = c .before .before .before .before .before .before in
+    sym (a .loop .inv ∙ found-here (a .before .args .t1) (a .loop .i) _ (c .before .before .if1 .left) (c .if2 .taken))
+
+loop-again : tie.Need-loop-again Inv-loop μ-loop
+loop-again c =
+    let a = c .before .before .before .before .before .before in
+    a .loop .inv ∙ found-go (a .before .args .t1) (a .loop .i) _ (c .before .before .if1 .left) (c .if2 .left)
+
+returns-3 : tie.Need-returns-3 Inv-loop μ-loop
+returns-3 c =
+    let a = c .before in
+    let l = a .before .args .t1 in
+    let h : length l ≡ most-tasks = search needs in
+    sym (a .loop .inv ∙ found-stop l (a .loop .i) _ (used-end l (a .loop .i) h (c .loop-test .left)))
+
+pub find-from-spec : {M : Type 1} → statement M
+find-from-spec =
+    tie.close
+    (tie.spec Inv-loop μ-loop (λ c. refl) (λ c. search needs) (λ c. search needs) returns returns-2 (λ c. search needs)
+    (λ c. search needs) loop-again returns-3)

@@ -1,0 +1,306 @@
+// The waiting queue of a pool, by value: its entries in order, zeros in the places past the last.
+ghost use mathlib.Core.Path.{_≡_};
+ghost use mathlib.Core.Bool.{true};
+ghost use mathlib.Core.List.{[], _++_};
+ghost use Prim.Native.Nat.{ℕ, _-_, _≤_, _<_};
+ghost use lib.ListN.{length, take, drop};
+ghost use Rattle.model.specs.Limits.{most-tasks};
+ghost use Rattle.model.specs.Waiting as Waiting;
+ghost use Rattle.model.specs.Waiting.{okLeft, aged};
+ghost use Rattle.model.specs.Rules.{okTask, okSize, okEntry, base};
+ghost use Rattle.model.specs.Places.{noEntry, pad, used, isUnused, allUnused, tidy, wokenOf};
+ghost use Rattle.queue.specs.Entries.{soundQueue, found, foundFrom, rank, placeFor, put, without, tickedOf, limitOf};
+use model::BlockOffset;
+use model::E_TMOUT;
+use model::Entry;
+use model::FOREVER;
+use model::TASKS;
+use model::Woken;
+
+// The greatest task number.
+const LAST_TASK: u32 = TASKS as u32;
+
+// The greatest time left of a limited wait.
+const LONGEST_LEFT: u32 = 2147483647;
+
+// An unused place of the queue, and of the woken list.
+const NO_ENTRY: Entry = Entry {
+    task: 0,
+    size: 0,
+    left: 0,
+};
+
+const NO_WOKEN: Woken = Woken {
+    task: 0,
+    code: 0,
+    offset: BlockOffset(0),
+};
+
+// ---- empty places
+
+// A queue without entries.
+pub fn empty() -> [Entry; TASKS]
+    ensures { λ r. ⌜ r ≡ pad noEntry most-tasks [] ⌝ }
+{
+    [NO_ENTRY; TASKS]
+}
+
+// A woken list without tasks.
+pub fn nobody() -> [Woken; TASKS]
+    ensures { λ r. ⌜ r ≡ wokenOf [] ⌝ }
+{
+    [NO_WOKEN; TASKS]
+}
+
+// ---- the tests
+
+// Whether this is the number of a task.
+pub fn is_task(task: u32) -> bool
+    ensures { λ r. ⌜ ((n : ℕ) → r ≡ okTask (base n) task) ⌝ }
+{
+    (1 <= task) & (task <= LAST_TASK)
+}
+
+// Whether this size may be asked of a pool of `n` bytes.
+pub fn is_size(n: usize, size: u32) -> bool
+    ensures { λ r. ⌜ r ≡ okSize n size ⌝ }
+{
+    (1 <= size) & (size as usize + 8 <= n)
+}
+
+// Whether this time left may stand in an entry.
+fn is_left(left: u32) -> bool
+    ensures { λ r. ⌜ r ≡ okLeft left ⌝ }
+{
+    (1 <= left) & ((left <= LONGEST_LEFT) | (left == FOREVER))
+}
+
+// Whether this entry may stand in the queue of a pool of `n` bytes.
+fn is_entry(n: usize, e: Entry) -> bool
+    ensures { λ r. ⌜ r ≡ okEntry (base n) e ⌝ }
+{
+    is_task(e.task) & (is_size(n, e.size) & is_left(e.left))
+}
+
+// Whether this place is all zeros.
+fn is_unused(e: Entry) -> bool
+    ensures { λ r. ⌜ r ≡ isUnused e ⌝ }
+{
+    (e.task == 0) & ((e.size == 0) & (e.left == 0))
+}
+
+// Whether the places from `first` on are all zeros.
+fn unused_from(entries: [Entry; TASKS], first: usize) -> bool
+    ensures { λ r. ⌜ r ≡ allUnused (drop first entries) ⌝ }
+{
+    for i in first..TASKS {
+        let e = entries[i];
+        if !is_unused(e) {
+            return false;
+        }
+    }
+    true
+}
+
+// Whether the queue is sound over a pool of `n` bytes.
+pub fn is_sound(entries: [Entry; TASKS], n: usize) -> bool
+    ensures { λ r. ⌜ r ≡ soundQueue n entries ⌝ }
+{
+    for i in 0..TASKS {
+        let e = entries[i];
+        if e.task == 0 {
+            return unused_from(entries, i);
+        }
+        if !is_entry(n, e) {
+            return false;
+        }
+        let Slot::Nothing = find_from(entries, i + 1, e.task) else {
+            return false;
+        };
+    }
+    true
+}
+
+// ---- who waits
+
+// The place of a task's entry.
+pub enum Slot {
+    At(usize),
+    Nothing,
+}
+
+// The place of the task's entry among those from `first` on.
+fn find_from(entries: [Entry; TASKS], first: usize, task: u32) -> Slot
+    ensures { λ r. ⌜ r ≡ foundFrom first task (used (drop first entries)) ⌝ }
+{
+    for i in first..TASKS {
+        let e = entries[i];
+        if e.task == 0 {
+            return Slot::Nothing;
+        }
+        if e.task == task {
+            return Slot::At(i);
+        }
+    }
+    Slot::Nothing
+}
+
+// The place of the task's entry.
+pub fn find(entries: [Entry; TASKS], task: u32) -> Slot
+    ensures { λ r. ⌜ r ≡ found task (used entries) ⌝ }
+{
+    find_from(entries, 0, task)
+}
+
+// ---- who joins and who leaves
+
+// `out`, its places from `place` on taken from those of `entries` from `first` on, then zeros.
+fn copy(out: [Entry; TASKS], place: usize, entries: [Entry; TASKS], first: usize) -> [Entry; TASKS]
+    requires { ⌜ (tidy entries ≡ true) × (first ≤ most-tasks) ⌝ }
+    ensures { λ r. ⌜ r ≡ pad noEntry most-tasks (take place out ++ drop first (used entries)) ⌝ }
+{
+    let mut after = out;
+    let mut k = first;
+    for i in place..TASKS {
+        let mut e = NO_ENTRY;
+        if k < TASKS {
+            e = entries[k];
+        }
+        after[i] = e;
+        k += 1;
+    }
+    after
+}
+
+// The place where a newcomer stands.
+pub fn place_for(entries: [Entry; TASKS], e: Entry) -> usize
+    ensures { λ r. ⌜ r ≡ placeFor rank e (used entries) ⌝ }
+{
+    let mut i: usize = 0;
+    while i < TASKS {
+        let x = entries[i];
+        if x.task == 0 {
+            return i;
+        }
+        i += 1;
+    }
+    i
+}
+
+// The queue with an entry at a place, those from there on one place further.
+pub fn insert(entries: [Entry; TASKS], place: usize, e: Entry) -> [Entry; TASKS]
+    requires { ⌜ (tidy entries ≡ true) × (place ≤ length (used entries)) × (place < most-tasks) ⌝ }
+    ensures { λ r. ⌜ r ≡ pad noEntry most-tasks (put place e (used entries)) ⌝ }
+{
+    let mut out = entries;
+    out[place] = e;
+    copy(out, place + 1, entries, place)
+}
+
+// The queue with a newcomer.
+pub fn join(entries: [Entry; TASKS], e: Entry) -> [Entry; TASKS]
+    requires { ⌜ (tidy entries ≡ true) × (length (used entries) < most-tasks) ⌝ }
+    ensures { λ r. ⌜ r ≡ pad noEntry most-tasks (Waiting.insert rank e (used entries)) ⌝ }
+{
+    let place = place_for(entries, e);
+    insert(entries, place, e)
+}
+
+// The queue without the entry at a place.
+pub fn remove(entries: [Entry; TASKS], place: usize) -> [Entry; TASKS]
+    requires { ⌜ (tidy entries ≡ true) × (place < length (used entries)) ⌝ }
+    ensures { λ r. ⌜ r ≡ pad noEntry most-tasks (without place (used entries)) ⌝ }
+{
+    copy(entries, place, entries, place + 1)
+}
+
+// The queue of the entries from a place on.
+pub fn rest(entries: [Entry; TASKS], first: usize) -> [Entry; TASKS]
+    requires { ⌜ (tidy entries ≡ true) × (first ≤ most-tasks) ⌝ }
+    ensures { λ r. ⌜ r ≡ pad noEntry most-tasks (drop first (used entries)) ⌝ }
+{
+    copy(entries, 0, entries, first)
+}
+
+// ---- time
+
+// The entry a tick older.
+fn age(e: Entry) -> Entry
+    ensures { λ r. ⌜ r ≡ aged e ⌝ }
+{
+    if e.left == FOREVER {
+        return e;
+    }
+    if e.left < 1 {
+        return e;
+    }
+    Entry {
+        task: e.task,
+        size: e.size,
+        left: e.left - 1,
+    }
+}
+
+// The queue after a tick, and the tasks whose wait the tick ends, with their number.
+pub struct Ticked {
+    pub entries: [Entry; TASKS],
+    pub woken: [Woken; TASKS],
+    pub count: usize,
+}
+
+// A tick: each limited wait loses one, and those that reach none leave.
+pub fn tick(entries: [Entry; TASKS]) -> Ticked
+    ensures { λ r. ⌜ r ≡ tickedOf entries ⌝ }
+{
+    let mut stay = empty();
+    let mut woken = nobody();
+    let mut k: usize = 0;
+    let mut n: usize = 0;
+    let mut i: usize = 0;
+    while i < TASKS {
+        let e = entries[i];
+        if e.task == 0 {
+            break;
+        }
+        i += 1;
+        if e.left == 1 {
+            woken[n] = Woken {
+                task: e.task,
+                code: E_TMOUT,
+                offset: BlockOffset(0),
+            };
+            n += 1;
+        } else {
+            stay[k] = age(e);
+            k += 1;
+        }
+    }
+    Ticked {
+        entries: stay,
+        woken: woken,
+        count: n,
+    }
+}
+
+// What a time limit asks for; a wait has its time left.
+pub enum Limit {
+    Refused,
+    Poll,
+    Wait(u32),
+}
+
+// -1 waits forever, 0 polls, a positive limit waits so many ticks, any other is refused.
+pub fn wait_of(limit: i32) -> Limit
+    ensures { λ r. ⌜ r ≡ limitOf limit ⌝ }
+{
+    if limit == -1 {
+        return Limit::Wait(FOREVER);
+    }
+    if limit < 0 {
+        return Limit::Refused;
+    }
+    if limit == 0 {
+        return Limit::Poll;
+    }
+    Limit::Wait(limit as u32)
+}

@@ -1,0 +1,217 @@
+//! Builds a log record by record and follows it on a pool, so that requests
+//! can be chosen by the state they meet.
+
+use crate::log::{write_record, Record};
+use crate::number::write_number;
+use crate::pool::{Answer, Pool, FOREVER, MAX_TASK};
+use crate::replay::apply;
+use crate::rng::Rng;
+use crate::runs::HEADER;
+
+const WRONG_TASKS: [u32; 11] = [0, 33, 34, 63, 64, 65, 256, 257, 65_537, 1 << 31, u32::MAX];
+
+pub struct Dealer {
+    pub rng: Rng,
+    pub pool: Pool,
+    pub log: Vec<u8>,
+}
+
+impl Dealer {
+    /// A log on a pool of `len` bytes, an allowed length.
+    pub fn new(rng: Rng, len: u32) -> Dealer {
+        let pool = Pool::create(len).expect("the length is allowed");
+        let mut log = Vec::new();
+        write_number(&mut log, len);
+        Dealer { rng, pool, log }
+    }
+
+    /// Appends a record and carries it out.
+    pub fn put(&mut self, record: Record) -> Answer {
+        write_record(&mut self.log, record);
+        apply(&mut self.pool, record)
+    }
+
+    pub fn get(&mut self, task: u32, size: u32, limit: i32) -> Answer {
+        self.put(Record::Get { task, size, limit })
+    }
+
+    pub fn poll(&mut self, task: u32, size: u32) -> Answer {
+        self.put(Record::Poll { task, size })
+    }
+
+    pub fn release(&mut self, offset: u32) -> Answer {
+        self.put(Record::Release { offset })
+    }
+
+    pub fn cancel(&mut self, task: u32) -> Answer {
+        self.put(Record::Cancel { task })
+    }
+
+    pub fn tick(&mut self) -> Answer {
+        self.put(Record::Tick)
+    }
+
+    /// All tasks in random order.
+    pub fn shuffled_tasks(&mut self) -> Vec<u32> {
+        let mut tasks: Vec<u32> = (1..=MAX_TASK).collect();
+        self.rng.shuffle(&mut tasks);
+        tasks
+    }
+
+    pub fn any_task(&mut self) -> u32 {
+        self.rng.between(1, MAX_TASK)
+    }
+
+    fn waiting_task(&mut self) -> Option<u32> {
+        let place = self.rng.index(self.pool.queue().len());
+        self.pool
+            .queue()
+            .iter()
+            .nth(place)
+            .map(|waiter| waiter.task)
+    }
+
+    /// A task that does not wait, if there is one.
+    pub fn idle_task(&mut self) -> Option<u32> {
+        let start = self.rng.below(MAX_TASK);
+        let mut tasks = (0..MAX_TASK).map(|step| (start + step) % MAX_TASK + 1);
+        tasks.find(|&task| !self.pool.queue().contains(task))
+    }
+
+    pub fn live_offset(&mut self) -> Option<u32> {
+        let runs = self.pool.runs().as_slice();
+        let start = self.rng.index(runs.len());
+        let (before, after) = runs.split_at(start);
+        let mut circle = after.iter().chain(before);
+        circle.find(|run| !run.is_free()).map(|run| run.offset())
+    }
+
+    fn free_offset(&mut self) -> Option<u32> {
+        let count = self.pool.runs().free().count();
+        let index = self.rng.index(count);
+        self.pool.runs().free().nth(index).map(|run| run.offset())
+    }
+
+    pub fn wrong_task(&mut self) -> u32 {
+        self.rng.pick(&WRONG_TASKS)
+    }
+
+    pub fn wrong_size(&mut self) -> u32 {
+        let max = self.pool.max_size();
+        let wrong = [0, 0, max + 1, max + 4, max + HEADER, max + 65_536, 65_537];
+        let huge = [1 << 31, u32::MAX - 7, u32::MAX - 3, u32::MAX];
+        if self.rng.chance(60) {
+            self.rng.pick(&wrong)
+        } else {
+            self.rng.pick(&huge)
+        }
+    }
+
+    /// An offset that is most likely not that of a live block.
+    pub fn wrong_offset(&mut self) -> u32 {
+        let len = self.pool.len();
+        let live = self.live_offset().unwrap_or(HEADER);
+        match self.rng.below(8) {
+            0 => self.rng.below(13),
+            1 => self.rng.between(len - 4, len + 12),
+            2 => self.free_offset().unwrap_or(0),
+            3 => self.rng.below(len / 4) * 4,
+            4 => live + self.rng.between(1, 3),
+            5 => live + 65_536,
+            6 => live - self.rng.pick(&[4, 8]),
+            _ => self.rng.pick(&[0, 1 << 31, u32::MAX - 3, u32::MAX]),
+        }
+    }
+
+    /// A size from 1 to the greatest allowed, often near a limit.
+    pub fn size(&mut self) -> u32 {
+        let max = self.pool.max_size();
+        match self.rng.below(10) {
+            0..=3 => self.rng.between(1, max.min(40)),
+            4 | 5 => self.rng.between(1, max),
+            6 => max - self.rng.below(max.min(16)),
+            _ => self.size_near_free_run().clamp(1, max),
+        }
+    }
+
+    /// A size that leaves about 0 to 16 bytes of some free run.
+    fn size_near_free_run(&mut self) -> u32 {
+        let room = self.free_offset().map_or(0, |offset| self.room_at(offset));
+        let rest = self.rng.pick(&[0, 4, 8, 12, 16]);
+        (room + 1).saturating_sub(rest + self.rng.below(5))
+    }
+
+    fn room_at(&self, offset: u32) -> u32 {
+        let mut free = self.pool.runs().free();
+        free.find(|run| run.offset() == offset)
+            .map_or(0, |run| run.len - HEADER)
+    }
+
+    /// A limit that makes a get wait.
+    pub fn limit(&mut self) -> i32 {
+        match self.rng.below(10) {
+            0..=3 => FOREVER,
+            4..=7 => self.rng.between(1, 4) as i32,
+            8 => self.rng.between(5, 200) as i32,
+            _ => i32::MAX,
+        }
+    }
+
+    /// Appends a record of any kind, chosen by the present state.
+    pub fn put_any(&mut self) -> Answer {
+        if self.rng.chance(14) {
+            return self.put_wrong();
+        }
+        let task = self.idle_task().unwrap_or(1);
+        match self.rng.below(100) {
+            0..=41 => {
+                let (size, limit) = (self.size(), self.limit());
+                self.get(task, size, limit)
+            }
+            42..=45 => {
+                let size = self.size();
+                self.get(task, size, 0)
+            }
+            46..=57 => {
+                let size = self.size();
+                self.poll(task, size)
+            }
+            58..=81 => {
+                let offset = self.live_offset().unwrap_or(0);
+                self.release(offset)
+            }
+            82..=89 => {
+                let task = self.waiting_task().unwrap_or(task);
+                self.cancel(task)
+            }
+            _ => self.tick(),
+        }
+    }
+
+    /// Appends a record that is most likely refused.
+    fn put_wrong(&mut self) -> Answer {
+        let (task, size, limit) = (self.any_task(), self.size(), self.limit());
+        let (wrong_task, wrong_size) = (self.wrong_task(), self.wrong_size());
+        let waiting = self.waiting_task().unwrap_or(task);
+        let offset = self.wrong_offset();
+        match self.rng.below(12) {
+            0 => self.get(wrong_task, size, limit),
+            1 => self.poll(wrong_task, wrong_size),
+            2 => self.cancel(wrong_task),
+            3 => self.get(task, wrong_size, limit),
+            4 => self.poll(task, wrong_size),
+            5 => self.get(waiting, size, 0),
+            6 => self.get(waiting, size, limit),
+            7 => self.poll(waiting, wrong_size),
+            8 => self.poll(waiting, size),
+            9 => self.cancel(task),
+            _ => self.release(offset),
+        }
+    }
+
+    pub fn put_many(&mut self, count: u32) {
+        for _ in 0..count {
+            self.put_any();
+        }
+    }
+}

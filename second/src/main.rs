@@ -1,0 +1,134 @@
+//! Command line of the second program.
+
+use std::io::{self, BufWriter, Read, Write};
+use std::path::{Path, PathBuf};
+use std::process::ExitCode;
+
+use second::check::check_folder;
+use second::compare::{compare, Logs};
+use second::coverage::Coverage;
+use second::deal::deal;
+use second::hex::to_hex;
+use second::replay::{replay_text, MAX_LOG};
+
+const USAGE: &str = "usage:
+  second replay < LOG
+  second deal SEED COUNT
+  second count SEED COUNT
+  second compare PROGRAM SEED COUNT [LOG_FILE..]
+  second check FOLDER [PROGRAM]
+";
+
+/// Exit status of wrong arguments and of files or programs that fail.
+const TROUBLE: u8 = 2;
+
+fn main() -> ExitCode {
+    let arguments: Vec<String> = std::env::args().skip(1).collect();
+    match run(&arguments) {
+        Ok(Some(code)) => code,
+        Ok(None) => {
+            eprint!("{USAGE}");
+            ExitCode::from(TROUBLE)
+        }
+        Err(error) => {
+            eprintln!("second: {error}");
+            ExitCode::from(TROUBLE)
+        }
+    }
+}
+
+/// Carries out a command; `None` if the arguments are wrong.
+fn run(arguments: &[String]) -> io::Result<Option<ExitCode>> {
+    let words: Vec<&str> = arguments.iter().map(String::as_str).collect();
+    match words.as_slice() {
+        ["replay"] => replay().map(Some),
+        ["deal", seed, count] => with_numbers(seed, count, deal_logs),
+        ["count", seed, count] => with_numbers(seed, count, count_logs),
+        ["compare", program, seed, count, files @ ..] => {
+            let files: Vec<PathBuf> = files.iter().map(PathBuf::from).collect();
+            with_numbers(seed, count, |seed, count| {
+                compare_logs(Path::new(program), Logs { seed, count, files })
+            })
+        }
+        ["check", folder] => check(folder, None).map(Some),
+        ["check", folder, program] => check(folder, Some(Path::new(program))).map(Some),
+        _ => Ok(None),
+    }
+}
+
+fn with_numbers(
+    seed: &str,
+    count: &str,
+    command: impl FnOnce(u64, u64) -> io::Result<ExitCode>,
+) -> io::Result<Option<ExitCode>> {
+    match (seed.parse(), count.parse()) {
+        (Ok(seed), Ok(count)) => command(seed, count).map(Some),
+        _ => Ok(None),
+    }
+}
+
+fn replay() -> io::Result<ExitCode> {
+    let mut log = Vec::new();
+    io::stdin()
+        .lock()
+        .take(MAX_LOG as u64 + 1)
+        .read_to_end(&mut log)?;
+    io::stdout()
+        .lock()
+        .write_all(replay_text(&log).as_bytes())?;
+    Ok(ExitCode::SUCCESS)
+}
+
+fn deal_logs(seed: u64, count: u64) -> io::Result<ExitCode> {
+    let mut out = BufWriter::new(io::stdout().lock());
+    for index in 0..count {
+        writeln!(out, "{}", to_hex(&deal(seed, index)))?;
+    }
+    out.flush()?;
+    Ok(ExitCode::SUCCESS)
+}
+
+fn count_logs(seed: u64, count: u64) -> io::Result<ExitCode> {
+    let mut coverage = Coverage::default();
+    for index in 0..count {
+        coverage.add_log(&deal(seed, index));
+    }
+    let mut out = BufWriter::new(io::stdout().lock());
+    for (name, number) in &coverage.counts {
+        writeln!(out, "{number:>9} {name}")?;
+    }
+    for (name, number) in &coverage.maxima {
+        writeln!(out, "{number:>9} most {name}")?;
+    }
+    out.flush()?;
+    Ok(ExitCode::SUCCESS)
+}
+
+fn compare_logs(program: &Path, logs: Logs) -> io::Result<ExitCode> {
+    let mut out = io::stdout().lock();
+    if let Some(difference) = compare(program, &logs)? {
+        writeln!(out, "{}", difference.report())?;
+        return Ok(ExitCode::FAILURE);
+    }
+    writeln!(out, "{} passed, 0 failed", logs.total())?;
+    Ok(ExitCode::SUCCESS)
+}
+
+fn check(folder: &str, program: Option<&Path>) -> io::Result<ExitCode> {
+    let tally = check_folder(Path::new(folder), program)?;
+    let mut out = io::stdout().lock();
+    for line in &tally.failures {
+        writeln!(out, "{line}")?;
+    }
+    writeln!(
+        out,
+        "{} passed, {} failed",
+        tally.passed,
+        tally.failures.len()
+    )?;
+    Ok(if tally.failures.is_empty() {
+        ExitCode::SUCCESS
+    } else {
+        ExitCode::FAILURE
+    })
+}

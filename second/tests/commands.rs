@@ -1,0 +1,129 @@
+//! The commands as a user starts them. One test only: scripts are written and
+//! started, which must not happen from several threads at once.
+
+use std::fs;
+use std::os::unix::fs::PermissionsExt;
+use std::path::{Path, PathBuf};
+use std::process::{Command, Output};
+
+use second::deal::deal;
+use second::hex::to_hex;
+use second::replay::replay_text;
+
+const SECOND: &str = env!("CARGO_BIN_EXE_second");
+
+fn second(arguments: &[&str]) -> Output {
+    Command::new(SECOND)
+        .args(arguments)
+        .output()
+        .expect("the program starts")
+}
+
+fn stdout(output: &Output) -> String {
+    String::from_utf8_lossy(&output.stdout).into_owned()
+}
+
+fn script(folder: &Path, name: &str, body: &str) -> String {
+    let path = folder.join(name);
+    fs::write(&path, format!("#!/bin/sh\n{body}\n")).expect("script written");
+    fs::set_permissions(&path, fs::Permissions::from_mode(0o755)).expect("mode set");
+    path.display().to_string()
+}
+
+fn fresh_folder(name: &str) -> PathBuf {
+    let folder = Path::new(env!("CARGO_TARGET_TMPDIR")).join(name);
+    let _ = fs::remove_dir_all(&folder);
+    fs::create_dir_all(&folder).expect("folder made");
+    folder
+}
+
+fn compare_equal(folder: &Path) {
+    let good = script(folder, "good", &format!("exec '{SECOND}' replay"));
+    let extra = folder.join("extra.log");
+    fs::write(&extra, [0x40, 0x05]).expect("log written");
+    let output = second(&["compare", &good, "1", "150", &extra.display().to_string()]);
+    assert_eq!(stdout(&output), "151 passed, 0 failed\n");
+    assert_eq!(output.status.code(), Some(0));
+}
+
+fn compare_different(folder: &Path) {
+    let body = format!("'{SECOND}' replay | sed 's/^w \\([0-9]*\\) -49/w \\1 -50/'");
+    let bad = script(folder, "bad", &body);
+    let output = second(&["compare", &bad, "1", "150"]);
+    assert_eq!(output.status.code(), Some(1));
+    let report = stdout(&output);
+    let differs = |index: &u64| replay_text(&deal(1, *index)).contains(" -49 0\n");
+    let first = (0..150).find(differs).expect("some log cancels");
+    let log = deal(1, first);
+    assert!(
+        report.starts_with(&format!("log {first} differs at line ")),
+        "{report}"
+    );
+    assert!(report.contains(&to_hex(&log)) && report.contains(&replay_text(&log)));
+}
+
+fn compare_other_faults(folder: &Path) {
+    let silent = script(folder, "silent", "exit 0");
+    assert_eq!(
+        second(&["compare", &silent, "1", "5"]).status.code(),
+        Some(1)
+    );
+    let killed = script(folder, "killed", &format!("'{SECOND}' replay\nkill -9 $$"));
+    assert_eq!(
+        second(&["compare", &killed, "1", "5"]).status.code(),
+        Some(1)
+    );
+    let endless = script(folder, "endless", "while :; do echo pool 64; done");
+    assert_eq!(
+        second(&["compare", &endless, "1", "1"]).status.code(),
+        Some(1)
+    );
+    let missing = folder.join("missing").display().to_string();
+    assert_eq!(
+        second(&["compare", &missing, "1", "5"]).status.code(),
+        Some(2)
+    );
+}
+
+fn check_stored(folder: &Path) {
+    let stored = folder.join("stored");
+    fs::create_dir_all(&stored).expect("folder made");
+    let path = stored.display().to_string();
+    assert_eq!(second(&["check", &path]).status.code(), Some(2));
+    for index in 0..3 {
+        let log = deal(3, index);
+        fs::write(stored.join(format!("{index}.txt")), replay_text(&log)).expect("text written");
+        fs::write(stored.join(format!("{index}.log")), log).expect("log written");
+    }
+    let good = folder.join("good").display().to_string();
+    let output = second(&["check", &path, &good]);
+    assert_eq!(stdout(&output), "3 passed, 0 failed\n");
+    let silent = folder.join("silent").display().to_string();
+    assert_eq!(second(&["check", &path, &silent]).status.code(), Some(1));
+    fs::write(stored.join("1.txt"), "pool 64\n").expect("text written");
+    fs::remove_file(stored.join("2.txt")).expect("text removed");
+    let output = second(&["check", &path]);
+    assert!(stdout(&output).ends_with("1 passed, 2 failed\n"));
+    assert_eq!(output.status.code(), Some(1));
+}
+
+fn deal_and_count() {
+    let output = second(&["deal", "9", "20"]);
+    let lines: Vec<String> = (0..20)
+        .map(|index| to_hex(&deal(9, index)) + "\n")
+        .collect();
+    assert_eq!(stdout(&output), lines.concat());
+    assert!(stdout(&second(&["count", "9", "20"])).contains("20 logs\n"));
+    assert_eq!(second(&["deal", "x", "20"]).status.code(), Some(2));
+    assert_eq!(second(&[]).status.code(), Some(2));
+}
+
+#[test]
+fn commands() {
+    let folder = fresh_folder("commands");
+    compare_equal(&folder);
+    compare_different(&folder);
+    compare_other_faults(&folder);
+    check_stored(&folder);
+    deal_and_count();
+}

@@ -1,0 +1,116 @@
+//! The dealt logs reach every code and shape.
+
+use second::coverage::Coverage;
+use second::deal::deal;
+use second::replay::MAX_LOG;
+
+fn coverage(seed: u64) -> Coverage {
+    let mut coverage = Coverage::default();
+    for index in 0..300 {
+        coverage.add_log(&deal(seed, index));
+    }
+    coverage
+}
+
+const NAMES: &[&str] = &[
+    "get code 0",
+    "get code 1",
+    "get code -17",
+    "get code -18",
+    "get code -25",
+    "get with limit 0, code 0",
+    "get with limit 0, code -25",
+    "get with limit 0, code -50",
+    "poll code 0",
+    "poll code -17",
+    "poll code -18",
+    "poll code -25",
+    "poll code -50",
+    "release code 0",
+    "release code -17",
+    "cancel code 0",
+    "cancel code -18",
+    "cancel code -41",
+    "tick code 0",
+    "woken 0",
+    "woken -49",
+    "woken -50",
+    "release serves",
+    "cancel serves",
+    "tick serves",
+    "tick with several expiries",
+    "release refused, outside the pool",
+    "release refused, not a multiple of 4",
+    "release refused, free block",
+    "release refused, inside a block",
+    "queue of 31",
+    "queue of 32",
+    "pool of 12 bytes",
+    "pool of the greatest length",
+    "limit field 2^31",
+    "log empty",
+    "log of the greatest length",
+    "log too long",
+    "pool refused -17",
+    "bad N, cut off",
+    "bad N, long form",
+    "bad N, too large",
+    "bad record, cut off",
+    "bad record, kind",
+    "bad record, limit field",
+    "bad record, long form",
+    "bad record, too large",
+    "end clean",
+];
+
+fn assert_reaches_all(seed: u64) {
+    let coverage = coverage(seed);
+    for name in NAMES {
+        assert!(coverage.count(name) > 0, "seed {seed} misses {name}");
+    }
+    for place in 1..=32 {
+        let name = format!("cancel at place {place:02}");
+        assert!(coverage.count(&name) > 0, "seed {seed} misses {name}");
+    }
+    for (name, least) in [
+        ("live blocks", 2_000),
+        ("free runs", 300),
+        ("waiters", 32),
+        ("served by one call", 30),
+        ("expired in one tick", 5),
+    ] {
+        assert!(coverage.maximum(name) >= least, "seed {seed}: {name}");
+    }
+}
+
+#[test]
+fn seed_1_reaches_all() {
+    assert_reaches_all(1);
+}
+
+#[test]
+fn other_seeds_reach_all() {
+    for seed in [0, 2, 3, u64::MAX] {
+        assert_reaches_all(seed);
+    }
+}
+
+#[test]
+fn dealing_is_repeatable_and_seeds_differ() {
+    for index in 0..100 {
+        assert_eq!(deal(5, index), deal(5, index));
+    }
+    let differing = (0..100)
+        .filter(|&index| deal(5, index) != deal(6, index))
+        .count();
+    assert!(differing > 80);
+}
+
+#[test]
+fn most_logs_are_small() {
+    let lengths: Vec<usize> = (0..300).map(|index| deal(1, index).len()).collect();
+    let small = lengths.iter().filter(|&&len| len < 2_000).count();
+    assert!(small >= 290);
+    assert!(lengths.iter().any(|&len| len > MAX_LOG));
+    assert!(lengths.contains(&MAX_LOG));
+}

@@ -1,0 +1,262 @@
+//! Number forms, records, and the text of every sort of log.
+
+use second::hex::{from_hex, to_hex};
+use second::log::{read_record, write_record, Fault, Reading, Record};
+use second::number::{read_number, write_number, NumberFault};
+use second::replay::{replay_text, MAX_LOG};
+
+fn bytes(hex: &str) -> Vec<u8> {
+    from_hex(hex).expect("hex digits")
+}
+
+fn number(hex: &str) -> Result<(u32, usize), NumberFault> {
+    read_number(&bytes(hex))
+}
+
+fn text(hex: &str) -> String {
+    replay_text(&bytes(hex))
+}
+
+#[test]
+fn numbers_read() {
+    assert_eq!(number("00"), Ok((0, 1)));
+    assert_eq!(number("7F"), Ok((127, 1)));
+    assert_eq!(number("80 01"), Ok((128, 2)));
+    assert_eq!(number("C8 01"), Ok((200, 2)));
+    assert_eq!(number("C8 01 FF"), Ok((200, 2)));
+    assert_eq!(number("80 80 04"), Ok((65_536, 3)));
+    assert_eq!(number("80 80 80 80 08"), Ok((1 << 31, 5)));
+    assert_eq!(number("FF FF FF FF 0F"), Ok((u32::MAX, 5)));
+}
+
+#[test]
+fn numbers_refused() {
+    for hex in [
+        "80 00",
+        "81 00",
+        "C8 80 00",
+        "80 80 80 00",
+        "FF FF FF FF 00",
+    ] {
+        assert_eq!(number(hex), Err(NumberFault::LongForm), "{hex}");
+    }
+    for hex in [
+        "FF FF FF FF 10",
+        "80 80 80 80 7F",
+        "80 80 80 80 80 00",
+        "FF FF FF FF 8F 01",
+    ] {
+        assert_eq!(number(hex), Err(NumberFault::TooLarge), "{hex}");
+    }
+    for hex in ["", "80", "FF FF", "80 80 80", "FF FF FF FF"] {
+        assert_eq!(number(hex), Err(NumberFault::CutOff), "{hex}");
+    }
+}
+
+#[test]
+fn numbers_written_are_read_back() {
+    let mut values = vec![0, 200, 65_536, u32::MAX];
+    for bits in 1..32 {
+        values.extend([(1 << bits) - 1, 1 << bits, (1 << bits) + 1]);
+    }
+    for value in values {
+        let mut out = Vec::new();
+        write_number(&mut out, value);
+        assert_eq!(read_number(&out), Ok((value, out.len())));
+        for len in 0..out.len() {
+            assert_eq!(read_number(&out[..len]), Err(NumberFault::CutOff));
+        }
+    }
+}
+
+#[test]
+fn records_written_are_read_back() {
+    let records = [
+        Record::Get {
+            task: 1,
+            size: 2,
+            limit: -1,
+        },
+        Record::Get {
+            task: 200,
+            size: 0,
+            limit: 0,
+        },
+        Record::Get {
+            task: 32,
+            size: u32::MAX,
+            limit: i32::MAX,
+        },
+        Record::Poll { task: 0, size: 300 },
+        Record::Release { offset: u32::MAX },
+        Record::Cancel { task: 77 },
+        Record::Tick,
+    ];
+    for record in records {
+        let mut out = Vec::new();
+        write_record(&mut out, record);
+        let len = out.len();
+        out.push(5);
+        assert_eq!(read_record(&out), Reading::Record(record, len));
+        for cut in 1..len {
+            let expected = Reading::Bad(Fault::Number(NumberFault::CutOff));
+            assert_eq!(read_record(&out[..cut]), expected);
+        }
+    }
+    assert_eq!(read_record(&[]), Reading::End);
+}
+
+#[test]
+fn limit_fields() {
+    let limit = |hex: &str| match read_record(&bytes(hex)) {
+        Reading::Record(Record::Get { limit, .. }, _) => Ok(limit),
+        Reading::Bad(fault) => Err(fault),
+        other => panic!("{other:?}"),
+    };
+    assert_eq!(limit("01 01 04 00"), Ok(-1));
+    assert_eq!(limit("01 01 04 01"), Ok(0));
+    assert_eq!(limit("01 01 04 02"), Ok(1));
+    assert_eq!(limit("01 01 04 80 80 80 80 08"), Ok(i32::MAX));
+    assert_eq!(limit("01 01 04 81 80 80 80 08"), Err(Fault::Limit));
+    assert_eq!(limit("01 01 04 FF FF FF FF 0F"), Err(Fault::Limit));
+}
+
+#[test]
+fn kinds() {
+    for hex in ["00", "06", "07", "08", "7F", "80 01", "85 01 00"] {
+        assert_eq!(read_record(&bytes(hex)), Reading::Bad(Fault::Kind), "{hex}");
+    }
+    let long = Reading::Bad(Fault::Number(NumberFault::LongForm));
+    assert_eq!(read_record(&bytes("85 00")), long);
+}
+
+#[test]
+fn specified_log() {
+    let log = "40 01 01 0A 00 01 02 14 00 02 05 0C 03 08 01 03 18 00 03 1C";
+    let expected = "pool 64\n0 8\n0 28\n-50 0\n0 0\n1 0\n0 0\nw 3 0 8\nend 6 records\n";
+    assert_eq!(text(log), expected);
+}
+
+#[test]
+fn specified_log_cut_off_at_every_place() {
+    let log = bytes("40 01 01 0A 00 01 02 14 00 02 05 0C 03 08 01 03 18 00 03 1C");
+    let starts = [1, 5, 9, 12, 14, 18, 20];
+    let whole = replay_text(&log);
+    let lines: Vec<&str> = whole.lines().collect();
+    for len in 1..log.len() {
+        let done = starts.iter().filter(|&&start| start <= len).count() - 1;
+        let mut expected = lines[..=done].join("\n");
+        if starts[done] == len {
+            expected += &format!("\nend {done} records\n");
+        } else {
+            expected += &format!("\nbad log at {}\n", starts[done]);
+        }
+        assert_eq!(replay_text(&log[..len]), expected, "first {len} bytes");
+    }
+}
+
+#[test]
+fn pool_without_records() {
+    assert_eq!(text("40"), "pool 64\nend 0 records\n");
+    assert_eq!(text("0C 05"), "pool 12\n0 0\nend 1 records\n");
+    assert_eq!(text("80 80 04"), "pool 65536\nend 0 records\n");
+}
+
+#[test]
+fn unreadable_length() {
+    for hex in [
+        "",
+        "80",
+        "80 00",
+        "C0 00",
+        "FF FF FF FF 10",
+        "80 80 80 80 80 01",
+        "80 00 05",
+    ] {
+        assert_eq!(text(hex), "bad log at 0\n", "{hex}");
+    }
+}
+
+#[test]
+fn refused_length() {
+    for hex in [
+        "00",
+        "08",
+        "0E",
+        "84 80 04",
+        "FF FF FF FF 0F",
+        "08 05",
+        "0E 00",
+        "00 80",
+    ] {
+        assert_eq!(text(hex), "pool refused -17\n", "{hex}");
+    }
+}
+
+#[test]
+fn bad_records() {
+    for (tail, place) in [
+        ("00", 1),
+        ("06", 1),
+        ("05 06 05", 2),
+        ("05 05 03", 3),
+        ("03 88 00", 1),
+        ("05 03 FF FF FF FF 10", 2),
+        ("01 01 04 81 80 80 80 08 05", 1),
+        ("05 01 01 04", 2),
+        ("85 00", 1),
+        ("FF", 1),
+    ] {
+        let answers = "0 0\n".repeat(place - 1);
+        let expected = format!("pool 64\n{answers}bad log at {place}\n");
+        assert_eq!(text(&format!("40 {tail}")), expected, "{tail}");
+    }
+}
+
+#[test]
+fn bad_record_after_a_long_length() {
+    assert_eq!(
+        text("80 80 04 05 05 09"),
+        "pool 65536\n0 0\n0 0\nbad log at 5\n"
+    );
+}
+
+#[test]
+fn greatest_limit_is_no_fault() {
+    let log = "0C 01 01 04 00 01 02 04 80 80 80 80 08 05 04 02";
+    assert_eq!(
+        text(log),
+        "pool 12\n0 8\n1 0\n0 0\n0 0\nw 2 -49 0\nend 4 records\n"
+    );
+}
+
+#[test]
+fn length_of_a_log() {
+    let mut log = vec![5; MAX_LOG];
+    log[0] = 0x40;
+    let expected = format!("pool 64\n{}end 65535 records\n", "0 0\n".repeat(65_535));
+    assert_eq!(replay_text(&log), expected);
+    log.push(5);
+    assert_eq!(replay_text(&log), "log too long\n");
+    assert_eq!(replay_text(&vec![0x80; MAX_LOG]), "bad log at 0\n");
+    assert_eq!(replay_text(&vec![0x80; MAX_LOG + 1]), "log too long\n");
+    assert_eq!(replay_text(&vec![0; MAX_LOG + 1]), "log too long\n");
+}
+
+#[test]
+fn largest_numbers_are_refused_by_the_calls() {
+    let largest = "FF FF FF FF 0F";
+    let log = format!("40 01 {largest} 04 00 02 01 {largest} 03 {largest} 04 {largest}");
+    assert_eq!(
+        text(&log),
+        "pool 64\n-18 0\n-17 0\n-17 0\n-18 0\nend 4 records\n"
+    );
+}
+
+#[test]
+fn hex_round_trip() {
+    assert_eq!(to_hex(&[0x00, 0xA5, 0xFF]), "00A5FF");
+    assert_eq!(from_hex("00 a5 Ff"), Some(vec![0x00, 0xA5, 0xFF]));
+    assert_eq!(from_hex("0"), None);
+    assert_eq!(from_hex("0G"), None);
+}
