@@ -4,3 +4,4 @@ pub mod Walking
 pub mod Surveying
 pub mod Granting
 pub mod Releasing
+pub mod Finding

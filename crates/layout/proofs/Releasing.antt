@@ -1,19 +1,19 @@
 -- The bytes after a release are those of the freed block list. Assumes nothing.
 use Prim.Native.Nat.{ℕ, _+_, _-_, _≤_, _<_}
 use mathlib.Core.Path.{_≡_, refl, sym, ap, _∙_}
-use mathlib.Core.Bool.{Bool, true, false, not, cond, _&&_, and-true}
+use mathlib.Core.Bool.{Bool, true, false, not, cond, _&&_, _||_, and-true}
 use mathlib.Core.List.{List, [], _∷_, _++_, append-assoc, append-nil}
 use mathlib.Core.Option.{Option, none}
 use native.Mathlib.Omega.{arith}
 use native.Mathlib.Nat.{zero-add, add-zero, sub-zero}
 use lib.ListN.{length, drop, replicate, length-append, length-replicate}
 use lib.Dec.{leb, eqb}
-use borrow.Author.Tests.{leb-true, eqb-true, eqb-false, le-leb, eq-eqb, ne-eqb, lt-ltb, le-ltb}
+use borrow.Author.Tests.{leb-true, leb-false, lt-leb, eqb-true, eqb-false, le-leb, eq-eqb, ne-eqb, lt-ltb, le-ltb}
 use Rattle.model.specs.declared.HeaderPlace.{HeaderPlace}
 use Rattle.model.specs.Limits.{most-tasks}
-use Rattle.model.specs.Blocks.{Block, block, isFree, total, tiled, liveAt, join, freed}
+use Rattle.model.specs.Blocks.{Block, block, isFree, total, tiled, holds, fits, liveAt, join, freed}
 use Rattle.model.specs.Bytes.{u32At, headerAt, blocksOf, le32, header, blank, overlay, written, mask, render, erase}
-use Rattle.model.proofs.Tests.{by, clash, and-l, and-r, not-t}
+use Rattle.model.proofs.Tests.{by, clash, and-l, and-r, and-f-r, not-t}
 use Rattle.model.proofs.Blocks.{tile}
 use Rattle.model.proofs.Masks.{over, overlay-overlay, over-append, over-written, none-over, over-zeroed, written-length, header-length, mark-length, mask-blank, mask-append, mask-length, Roomy}
 use Rattle.model.proofs.Bytes.{Bytes, header-at, tail-at, split-at, tiled-roomy, render-blocks}
@@ -68,6 +68,7 @@ pub record Around (p : ℕ) (bs : List Block) : Type 0 where
   pub post : List Block
   pub is : bs ≡ pre ++ (lead ++ (b ∷ (tail ++ post)))
   pub place : p ≡ total pre + total lead
+  pub live : isFree b ≡ false
   pub lead-free : FreeOne lead
   pub tail-free : FreeOne tail
   pub next : tail ≡ [] → LiveFirst post
@@ -113,6 +114,7 @@ head-around b rest l =
       post = r .post;
       is = ap (λ (x : List Block). b ∷ x) (r .is);
       place = refl;
+      live = l;
       lead-free = no-one;
       tail-free = r .tail-free;
       next = r .next;
@@ -141,6 +143,7 @@ second-around p c b rest l e h =
       post = r .post;
       is = ap (λ (x : List Block). c ∷ b ∷ x) (r .is);
       place = omega arith;
+      live = l;
       lead-free = one c f;
       tail-free = r .tail-free;
       next = r .next;
@@ -155,6 +158,7 @@ second-around p c b rest l e h =
       post = r .post;
       is = ap (λ (x : List Block). c ∷ b ∷ x) (r .is);
       place = omega arith;
+      live = l;
       lead-free = no-one;
       tail-free = r .tail-free;
       next = r .next;
@@ -202,6 +206,7 @@ deeper p c bs r h f =
       post = r .post;
       is = ap (λ (x : List Block). c ∷ x) (r .is);
       place = omega (arith, r .place);
+      live = r .live;
       lead-free = r .lead-free;
       tail-free = r .tail-free;
       next = r .next;
@@ -363,6 +368,7 @@ pub record Releasing (l : List ℕ) (p y : ℕ) : Type 0 where
   pub most : p + size + behind ≤ length l
   pub lone : p ≤ y → put y (header (block (p - y + size + behind) 0)) bytes ≡ changed (freed p) l
   pub pair : y < p → put y (header (block (p - y + size + behind) 0)) (put p (header (block 0 0)) bytes) ≡ changed (freed p) l
+  pub runs : (m : ℕ) → fits m (freed p (blocksOf l)) ≡ leb m (p - y + size + behind) || fits m (blocksOf l)
 
 -- the block behind, if it is free
 module _ (l : List ℕ) (e : ℕ) where
@@ -468,6 +474,44 @@ module _ (l : List ℕ) (p : ℕ) (pre : List Block) (b : Block) (tail post : Li
         λ h. absurd (omega (arith, hf)),
       )
 
+-- ---- the runs after a release
+
+fits-append : (m : ℕ) (xs ys : List Block) → fits m (xs ++ ys) ≡ fits m xs || fits m ys
+unfolding fits
+fits-append m [] ys = refl
+fits-append m (b ∷ xs) ys = by (holds m b) (λ h. rw h) (λ h. rw h (fits-append m xs ys))
+
+or-swap : (a b c : Bool) → a || (b || c) ≡ b || (a || c)
+or-swap true true c = refl
+or-swap true false c = refl
+or-swap false b c = refl
+
+-- one of at most one free block, of the live block and of at most one free block, where z is at least their sum
+around-fits : (m : ℕ) (lead : List Block) (b : Block) (tail post : List Block) (z : ℕ) → isFree b ≡ false → total lead ≤ z → total tail ≤ z
+    → leb m z || fits m (lead ++ (b ∷ (tail ++ post))) ≡ leb m z || fits m post
+unfolding fits total
+around-fits m lead b tail post z l h k =
+    by (leb m z)
+    (λ e. rw e)
+    (λ e. let g = leb-false m z e in
+    rw e (fits-append m lead (b ∷ (tail ++ post)) ∙ rw (few m lead (omega arith)) (rw l (fits-append m tail post ∙ rw (few m tail (omega arith))))))
+  where
+    few : (m : ℕ) (xs : List Block) → total xs < m → fits m xs ≡ false
+    few m [] h = refl
+    few m (x ∷ xs) h = rw (and-f-r (isFree x) (leb m (x .size)) (lt-leb m (x .size) (omega arith))) (few m xs (omega arith))
+
+freed-runs : (m : ℕ) (p : ℕ) (bs : List Block) (r : Around p bs) → fits m (freed p bs) ≡ leb m (total (r .lead) + (r .b .size + total (r .tail))) || fits m bs
+unfolding fits
+freed-runs m p bs r =
+    let z = total (r .lead) + (r .b .size + total (r .tail)) in
+    let mid = r .lead ++ (r .b ∷ (r .tail ++ r .post)) in
+    ap (fits m) (r .after) ∙ fits-append m (r .pre) (block z 0 ∷ r .post)
+    ∙ or-swap (fits m (r .pre)) (leb m z) (fits m (r .post))
+    ∙ or-swap (leb m z) (fits m (r .pre)) (fits m (r .post))
+    ∙ ap (λ (x : Bool). fits m (r .pre) || x) (sym (around-fits m (r .lead) (r .b) (r .tail) (r .post) z (r .live) (omega arith) (omega arith)))
+    ∙ or-swap (fits m (r .pre)) (leb m z) (fits m mid)
+    ∙ ap (λ (x : Bool). leb m z || x) (sym (ap (fits m) (r .is) ∙ fits-append m (r .pre) mid))
+
 pub releasing : (l : List ℕ) (s : Spot) → Bytes l → Releasable l s → Releasing l (s .place .0) (s .free .0)
 unfolding Left total
 releasing l s w g =
@@ -495,6 +539,7 @@ releasing l s w g =
       most = k .most;
       lone = d .1;
       pair = d .0;
+      runs = λ m. freed-runs m p bs r ∙ ap (λ (k : ℕ). leb m k || fits m bs) (omega (arith, r .place));
     })
   where
     spot-free : (p x n : ℕ) (s : Spot) → p ≡ x + n → found.At s ≡ found.At (record { place = record { 0 = p }; free = record { 0 = cond (eqb p 0) 0 (0 + x) } }) → s .free .0 ≡ x

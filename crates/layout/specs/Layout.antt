@@ -1,14 +1,14 @@
 -- What the routines on the pool's bytes answer and leave.
 use Prim.Native.Nat.{ℕ, _+_, _≤_, _<_, max}
 use mathlib.Core.Path.{_≡_}
-use mathlib.Core.Bool.{Bool, true, false, not, cond, _&&_}
+use mathlib.Core.Bool.{Bool, true, false, not, cond, _&&_, _||_}
 use mathlib.Core.List.{List, [], _∷_, _++_}
 use mathlib.Core.Option.{none}
 use lib.ListN.{length, drop, replicate}
 use lib.Dec.{leb, ltb, eqb}
 use Rattle.model.specs.declared.HeaderPlace.{HeaderPlace}
 use Rattle.model.specs.Limits.{most-tasks, longest-pool}
-use Rattle.model.specs.Blocks.{Block, block, isFree, total, okBlock, tiled, holds, fits, firstFit, room, sumFree, greatestFree}
+use Rattle.model.specs.Blocks.{Block, block, isFree, total, okBlock, tiled, holds, fits, firstFit, freed, room, sumFree, greatestFree}
 use Rattle.model.specs.Bytes.{u32At, blocksOf, header, overlay, written, render, erase}
 use Rattle.model.specs.Rules.{okLong}
 use Rattle.layout.specs.declared.Target.{Target}
@@ -123,6 +123,11 @@ pub record Grantable (l : List ℕ) (place : HeaderPlace) (need : ℕ) : Type 0 
 pub record Releasable (l : List ℕ) (spot : Spot) : Type 0 where
   pub pool : soundPool l ≡ true
   pub live : seek (sought (target.Block (spot .place))) 0 0 (blocksOf l) ≡ found.At spot
+
+-- what a release of the block at the place p leaves: a need fits exactly if it did before, or the run that is now free, of r bytes, holds it
+pub record Released (l : List ℕ) (p : ℕ) (after : List ℕ) (r : ℕ) : Type 0 where
+  pub bytes : after ≡ changed (freed p) l
+  pub runs : (need : ℕ) → fits need (freed p (blocksOf l)) ≡ leb need r || fits need (blocksOf l)
 
 -- the bytes after the header of a free block is erased, and the block's size, or 0
 pub record Swallowed : Type 0 where

@@ -5,8 +5,8 @@ use model::HeaderPlace;
 ghost use mathlib.Core.Path.{_≡_};
 ghost use Prim.Native.Nat.{_+_, _≤_, _<_};
 ghost use lib.ListN.{length};
-ghost use Rattle.model.specs.Blocks.{granted, freed};
-ghost use Rattle.layout.specs.Layout.{changed, Grantable, Releasable, swallowed, swallowOf};
+ghost use Rattle.model.specs.Blocks.{granted};
+ghost use Rattle.layout.specs.Layout.{changed, Grantable, Releasable, Released, swallowed, swallowOf};
 
 // Gives the free run at a place to a task: a block of `need` bytes and a free run behind it where 12 bytes or more are left over, else all of it.
 pub fn grant_at(s: &mut [u8], place: HeaderPlace, need: usize, task: usize)
@@ -41,10 +41,10 @@ fn swallow(s: &mut [u8], at: usize) -> usize
     size
 }
 
-// Frees the live block that was found: it joins a free block behind it, then one before it, and their headers become zero.
-pub fn release_at(s: &mut [u8], spot: Spot)
+// Frees the live block that was found: it joins a free block behind it, then one before it, and their headers become zero. Answers the size of the run.
+pub fn release_at(s: &mut [u8], spot: Spot) -> usize
     requires { ⌜ Releasable (now s) spot ⌝ }
-    ensures { λ r. ⌜ now (s .exit) ≡ changed (freed (spot .place .0)) (now (s .entry)) ⌝ }
+    ensures { λ r. ⌜ Released (now (s .entry)) (spot .place .0) (now (s .exit)) r ⌝ }
 {
     let at = spot.place.0;
     let first = spot.free.0;
@@ -54,7 +54,8 @@ pub fn release_at(s: &mut [u8], spot: Spot)
     if first < at {
         header::write_header(s, HeaderPlace(at), 0, 0);
         header::write_header(s, HeaderPlace(first), total, 0);
-    } else {
-        header::write_header(s, HeaderPlace(first), total, 0);
+        return total;
     }
+    header::write_header(s, HeaderPlace(first), total, 0);
+    total
 }

@@ -1,12 +1,13 @@
 -- Laws of the block list: what grant and release keep, and that a release undoes a grant. Assumes nothing.
-use Prim.Native.Nat.{ℕ, _+_, _-_, _%_, _≤_, _<_}
+use Prim.Native.Nat.{ℕ, _+_, _-_, _%_, _≤_, _<_, max}
 use mathlib.Core.Path.{_≡_, refl, sym, ap, _∙_}
-use mathlib.Core.Bool.{Bool, true, false, not, _&&_}
+use mathlib.Core.Bool.{Bool, true, false, not, _&&_, _||_}
 use mathlib.Core.List.{List, [], _∷_}
 use native.Mathlib.Omega.{arith}
+use native.Mathlib.Nat.{zero-max}
 use lib.Dec.{leb, eqb}
 use borrow.Author.Tests.{leb-true, leb-false, eqb-true, le-leb, lt-leb, eq-eqb, ne-eqb}
-use Rattle.model.specs.Blocks.{Block, block, isFree, total, okBlock, tiled, holds, fits, firstFit, carve, granted, liveAt, join, freed}
+use Rattle.model.specs.Blocks.{Block, block, isFree, total, okBlock, tiled, holds, fits, firstFit, carve, granted, liveAt, join, freed, greatestFree}
 use Rattle.model.proofs.Tests.{by, and-l, and-r, and-i, and-f-r, or-f-l, or-f-r, or-f, not-t}
 
 -- ---- a block that holds a need
@@ -124,6 +125,26 @@ module _ (tasks : ℕ) where
   loosen p (b ∷ bs) e =
       let o = tile p b bs e in
       untile false b bs (record { by-four = o .by-four; least = o .least; owned = o .owned; apart = and-f-r (isFree b) false refl; rest = o .rest })
+
+  -- ---- a need fits exactly if the greatest free run holds it
+
+  pub fits-greatest : (n : ℕ) (p : Bool) (bs : List Block) → 9 ≤ n → tiled tasks p bs ≡ true → fits n bs ≡ leb n (greatestFree bs + 8)
+  unfolding fits greatestFree
+  fits-greatest n p [] h t = sym (lt-leb n 8 (omega arith))
+  fits-greatest n p (b ∷ bs) h t =
+      let o = tile p b bs t in
+      let ih = fits-greatest n (isFree b) bs h (o .rest) in
+      by (isFree b)
+      (λ f. rw (f, ih) (greater (b .size) (greatestFree bs) (o .least)))
+      (λ f. rw (f, ih, zero-max (greatestFree bs)))
+    where
+      greater : (z g : ℕ) → 12 ≤ z → leb n z || leb n (g + 8) ≡ leb n (max (z - 8) g + 8)
+      greater z g k =
+          by (leb n z)
+          (λ e. rw e (sym (le-leb n (max (z - 8) g + 8) (omega (arith, leb-true n z e)))))
+          (λ e. rw e (by (leb n (g + 8))
+          (λ f. rw f (sym (le-leb n (max (z - 8) g + 8) (omega (arith, leb-true n (g + 8) f)))))
+          (λ f. rw f (sym (lt-leb n (max (z - 8) g + 8) (omega (arith, leb-false n z e, leb-false n (g + 8) f)))))))
 
   -- ---- a grant keeps the tiling
 

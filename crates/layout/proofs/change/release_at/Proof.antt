@@ -1,9 +1,11 @@
 -- `layout::change::release_at` meets its contract: one header over the joined blocks, zeros over the others. Assumes nothing.
 use Prim.Native.Nat.{ℕ, _+_, _-_}
 use native.Mathlib.Omega.{arith}
-use mathlib.Core.Path.{_≡_, ap, _∙_}
-use Rattle.model.specs.Blocks.{block}
-use Rattle.model.specs.Bytes.{header}
+use mathlib.Core.Path.{_≡_, sym, ap, _∙_}
+use mathlib.Core.Bool.{_||_}
+use lib.Dec.{leb}
+use Rattle.model.specs.Blocks.{block, fits}
+use Rattle.model.specs.Bytes.{blocksOf, header}
 use Rattle.layout.specs.Layout.{put, Swallowed, swallowOf, swallowed}
 use Rattle.layout.proofs.Releasing.{Releasing, releasing}
 use borrow.Author.Needs.{needs}
@@ -48,9 +50,6 @@ write-header-requires-2 : tie.Need-write-header-requires-2
 write-header-requires-2 c κs =
     let g = facts (c .before .before .before .before .before .before .before .before .before .before .before .before) in omega (arith, g .below, g .within, g .least)
 
-write-header-requires-3 : tie.Need-write-header-requires-3
-write-header-requires-3 c κs = let g = facts (c .before .before .before .before .before .before .before .before) in omega (arith, g .below, g .within, g .least)
-
 returns : tie.Need-returns
 returns c =
     let a = c .before .before .before .before .before .before .before .before .before .before .before .before .before .before .before .before .args in
@@ -60,10 +59,17 @@ returns c =
     let t = told (c .before .before .before .before .before .before .before .before .before .before .before) in
     let k : p - y + c .before .before .before .before .before .before .before .before .before .before .before .before .before .read-u32 .result + c .before .before .before .before .before .before .before .before .before .before .before .swallow .result ≡ p - y + g .size + g .behind =
     λ i. p - y + (c .before .before .before .before .before .before .before .before .before .before .before .before .before .read-u32 .ensures .is ∙ g .read) i + ap (λ (x : Swallowed). x .size) t i in
-    c .before .before .write-header2 .ensures
-    ∙ ap (put y (header (block (p - y + c .before .before .before .before .before .before .before .before .before .before .before .before .before .read-u32 .result + c .before .before .before .before .before .before .before .before .before .before .before .swallow .result) 0))) (c .before .before .before .before .before .before .write-header .ensures ∙ ap (λ (x : Swallowed). put p (header (block 0 0)) (x .bytes)) t)
-    ∙ ap (λ (n : ℕ). put y (header (block n 0)) (put p (header (block 0 0)) (g .bytes))) k
-    ∙ g .pair (c .before .before .before .before .before .before .before .before .if1 .taken)
+    record {
+      bytes =
+          c .before .before .write-header2 .ensures
+          ∙ ap (put y (header (block (p - y + c .before .before .before .before .before .before .before .before .before .before .before .before .before .read-u32 .result + c .before .before .before .before .before .before .before .before .before .before .before .swallow .result) 0))) (c .before .before .before .before .before .before .write-header .ensures ∙ ap (λ (x : Swallowed). put p (header (block 0 0)) (x .bytes)) t)
+          ∙ ap (λ (n : ℕ). put y (header (block n 0)) (put p (header (block 0 0)) (g .bytes))) k
+          ∙ g .pair (c .before .before .before .before .before .before .before .before .if1 .taken);
+      runs = λ m. g .runs m ∙ ap (λ (n : ℕ). leb m n || fits m (blocksOf (a .s .now))) (sym k);
+    }
+
+write-header-requires-3 : tie.Need-write-header-requires-3
+write-header-requires-3 c κs = let g = facts (c .before .before .before .before .before .before .before .before) in omega (arith, g .below, g .within, g .least)
 
 returns-2 : tie.Need-returns-2
 returns-2 c =
@@ -74,10 +80,14 @@ returns-2 c =
     let t = told (c .before .before .before .before .before .before .before) in
     let k : p - y + c .before .before .before .before .before .before .before .before .before .read-u32 .result + c .before .before .before .before .before .before .before .swallow .result ≡ p - y + g .size + g .behind =
     λ i. p - y + (c .before .before .before .before .before .before .before .before .before .read-u32 .ensures .is ∙ g .read) i + ap (λ (x : Swallowed). x .size) t i in
-    c .before .before .write-header3 .ensures
-    ∙ ap (λ (x : Swallowed). put y (header (block (p - y + c .before .before .before .before .before .before .before .before .before .read-u32 .result + c .before .before .before .before .before .before .before .swallow .result) 0)) (x .bytes)) t
-    ∙ ap (λ (n : ℕ). put y (header (block n 0)) (g .bytes)) k
-    ∙ g .lone (c .before .before .before .before .if1 .left)
+    record {
+      bytes =
+          c .before .before .write-header3 .ensures
+          ∙ ap (λ (x : Swallowed). put y (header (block (p - y + c .before .before .before .before .before .before .before .before .before .read-u32 .result + c .before .before .before .before .before .before .before .swallow .result) 0)) (x .bytes)) t
+          ∙ ap (λ (n : ℕ). put y (header (block n 0)) (g .bytes)) k
+          ∙ g .lone (c .before .before .before .before .if1 .left);
+      runs = λ m. g .runs m ∙ ap (λ (n : ℕ). leb m n || fits m (blocksOf (a .s .now))) (sym k);
+    }
 
 pub release-at-spec : {M : Type 1} → statement M
 release-at-spec =
@@ -91,8 +101,8 @@ release-at-spec =
     add-total-2
     write-header-requires
     write-header-requires-2
-    write-header-requires-3
     (λ c. search needs)
     returns
+    write-header-requires-3
     (λ c. search needs)
     returns-2)
