@@ -1,7 +1,7 @@
 -- What the walk finds, in terms of the block list. Assumes nothing.
 use Prim.Native.Nat.{ℕ, _+_}
 use mathlib.Core.Path.{_≡_, refl, sym, ap, _∙_}
-use mathlib.Core.Bool.{Bool, true, false, cond}
+use mathlib.Core.Bool.{true, false, cond}
 use mathlib.Core.List.{List, [], _∷_}
 use native.Mathlib.Omega.{arith}
 use native.Mathlib.Nat.{zero-add}
@@ -10,7 +10,6 @@ use Rattle.model.specs.Blocks.{Block, isFree, tiled, holds, fits, firstFit, liv
 use Rattle.model.proofs.Tests.{by}
 use Rattle.layout.specs.declared.Spot.{Spot}
 use Rattle.layout.specs.declared.Target.the-variants as target
-use Rattle.layout.specs.declared.Found.{Found}
 use Rattle.layout.specs.declared.Found.the-variants as found
 use Rattle.layout.specs.Layout.{seek, sought}
 use Rattle.layout.proofs.Releasing.{around}

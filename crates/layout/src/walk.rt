@@ -128,7 +128,8 @@ fn place_of(target: Target) -> usize
     }
 }
 
-fn unsound() -> Surveyed
+// What is answered of bytes that are no sound pool.
+pub fn unsound() -> Surveyed
     ensures { λ r. ⌜ r ≡ refused ⌝ }
 {
     Surveyed {

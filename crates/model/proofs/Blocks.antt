@@ -86,6 +86,11 @@ freed-total p (b ∷ bs) =
     (λ h. rw h (join-total (block (b .size) 0) bs))
     (λ h. rw h (join-total b (freed (p - b .size) bs) ∙ ap (λ (k : ℕ). b .size + k) (freed-total (p - b .size) bs)))
 
+pub greatest-total : (bs : List Block) → greatestFree bs ≤ total bs
+unfolding greatestFree total
+greatest-total [] = omega arith
+greatest-total (b ∷ bs) = let ih = greatest-total bs in by (isFree b) (λ h. rw h (omega (arith, ih))) (λ h. rw h (omega (arith, ih)))
+
 -- ---- the tiling, opened
 
 module _ (tasks : ℕ) where

@@ -28,6 +28,11 @@ pub past : (b : Bool) (c : ℤ) (rest : Option ℤ) → deny b c rest ≡ none �
 past true c rest e = no-some e
 past false c rest e = (refl, e)
 
+pub leave-length : (c : ℤ) (ts : List ℕ) → length (leave c ts) ≡ length ts
+unfolding leave
+leave-length c [] = refl
+leave-length c (t ∷ ts) = ap suc (leave-length c ts)
+
 module _ (K : Rules) {P : Type 0} (E : Store P) where
   pub record Sound (s : State P) : Type 0 where
     pub valid : K .valid ≡ true
@@ -170,11 +175,6 @@ module _ (K : Rules) {P : Type 0} (E : Store P) where
         go (some k) e = rw (step-refused c s k (verdict-sound c s h ∙ e)) h
 
     -- ---- nobody is lost: the woken and those who still wait are no more than the tasks
-
-    leave-length : (c : ℤ) (ts : List ℕ) → length (leave c ts) ≡ length ts
-    unfolding leave
-    leave-length c [] = refl
-    leave-length c (t ∷ ts) = ap suc (leave-length c ts)
 
     pub woken-length : (c : Call) (s : State P) → sound K E s ≡ true → tests K E c s ≡ none → length (act K E c s .said .woken) ≤ K .tasks
     unfolding act

@@ -6,6 +6,9 @@ pub const TASKS: usize = 32;
 // The greatest length of a pool, in bytes.
 pub const LONGEST_POOL: usize = 65536;
 
+// The code of a get that was told to wait.
+pub const WAITING: i32 = 1;
+
 // The codes of the µITRON 4.0 specification.
 pub const E_SYS: i32 = -5;
 
@@ -34,8 +37,10 @@ pub struct Entry {
     pub left: u32,
 }
 
-// The ticks left of a wait without a limit.
+// The ticks left of a wait without a limit, and the most of a limited one.
 pub const FOREVER: u32 = 4294967295;
+
+pub const LONGEST_LEFT: u32 = 2147483647;
 
 // The waiting queue: its entries in order, zeros in the places past the last.
 pub struct Queue {

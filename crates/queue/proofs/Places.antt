@@ -74,6 +74,13 @@ module _ {A : Type 0} (d : A) where
   sets-pad (suc n) [] = refl
   sets-pad (suc n) (x ∷ xs) = sets-cons x (pad d n []) 0 xs ∙ ap (λ (l : List A). x ∷ l) (sets-pad n xs)
 
+  -- the same behind those that are stored
+  pub sets-behind : (n : ℕ) (xs ys : List A) → sets (pad d n xs) (length xs) ys ≡ pad d n (xs ++ ys)
+  unfolding pad
+  sets-behind n [] ys = sets-pad n ys
+  sets-behind zero (x ∷ xs) ys = sets-nil (suc (length xs)) ys
+  sets-behind (suc n) (x ∷ xs) ys = sets-cons x (pad d n xs) (length xs) ys ∙ ap (λ (l : List A). x ∷ l) (sets-behind n xs ys)
+
 -- ---- the entries and the places that hold them
 
 pub used-length : (l : List Entry) → length (used l) ≤ length l

@@ -14,14 +14,12 @@ use model::BlockOffset;
 use model::E_TMOUT;
 use model::Entry;
 use model::FOREVER;
+use model::LONGEST_LEFT;
 use model::TASKS;
 use model::Woken;
 
 // The greatest task number.
 const LAST_TASK: u32 = TASKS as u32;
-
-// The greatest time left of a limited wait.
-const LONGEST_LEFT: u32 = 2147483647;
 
 // An unused place of the queue, and of the woken list.
 const NO_ENTRY: Entry = Entry {

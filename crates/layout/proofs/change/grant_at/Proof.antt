@@ -1,7 +1,7 @@
 -- `layout::change::grant_at` meets its contract: it writes the headers by which the two block lists differ. Assumes nothing.
 use Prim.Native.Nat.{ℕ, _+_, _-_}
 use native.Mathlib.Omega.{arith}
-use mathlib.Core.Path.{_≡_, ap, _∙_}
+use mathlib.Core.Path.{ap, _∙_}
 use Rattle.model.specs.Blocks.{block}
 use Rattle.model.specs.Bytes.{header}
 use Rattle.layout.specs.Layout.{put}

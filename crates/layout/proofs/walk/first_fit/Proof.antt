@@ -2,11 +2,10 @@
 use native.Mathlib.Omega.{arith}
 use mathlib.Core.Path.{_≡_, sym, ap, _∙_}
 use Rattle.layout.specs.declared.Target.the-variants.{Run}
-use Rattle.layout.specs.declared.Stop.{Stop}
 use Rattle.layout.specs.Layout.{firstFitOf, walkAt}
 use Rattle.model.specs.Limits.{longest-pool}
 use Rattle.model.specs.Bytes.{blocksOf}
-use Rattle.layout.proofs.Sound.{Pool, open-pool}
+use Rattle.layout.proofs.Sound.{open-pool}
 use Rattle.layout.proofs.Surveying.{foundBy, unseen, walk-sought}
 use borrow.Author.Needs.{needs}
 use Rattle.layout.proofs.walk.first_fit.Statement.{statement}

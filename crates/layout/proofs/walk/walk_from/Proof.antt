@@ -1,5 +1,5 @@
 -- `layout::walk::walk_from` meets its contract: the walk from the loop's state on stops as the walk from the start does. Assumes nothing.
-use Prim.Native.Nat.{_+_, _-_, _≤_, _<_}
+use Prim.Native.Nat.{_-_, _≤_}
 use native.Mathlib.Omega.{arith}
 use mathlib.Core.Path.{_≡_, refl, sym, ap, _∙_}
 use mathlib.Core.Bool.{true}
@@ -44,8 +44,7 @@ loop-again c =
     let z = c .before .before .before .before .before .before .before .before .read-u32 in
     let o = c .before .before .before .before .before .before .before .read-u322 in
     let s = stands-free (length (c .before .before .before .before .before .before .before .before .before .before .before .before .args .s .now)) (l .v) (block (z .result) (o .result)) (omega arith) (fit (c .before .before .before .before .before)) (omega (arith, c .before .before .if5 .left)) in
-    rw (c .passed .ensures)
-    (
+    rw (c .passed .ensures) (
       pass-sum (l .v) (z .result) (o .result) (l .inv .0),
       l .inv .1 ∙ walk-pass _ _ (c .before .before .before .before .before .before .before .before .before .before .before .before .args .s .now) (l .v) (z .result) (o .result) (omega arith) (z .ensures .is) (o .ensures .is) s (rw (eq-eqb _ _ (c .before .before .before .before .if4 .taken), lt-leb _ _ (c .before .if6 .left))),
     )
@@ -66,8 +65,7 @@ loop-again-2 c =
     let z = c .before .before .before .before .before .before .read-u32 in
     let o = c .before .before .before .before .before .read-u322 in
     let s = stands-live (length (c .before .before .before .before .before .before .before .before .before .before .args .s .now)) (l .v) (block (z .result) (o .result)) (omega arith) (fit (c .before .before .before)) (c .before .before .if4 .left) in
-    rw (c .passed2 .ensures)
-    (
+    rw (c .passed2 .ensures) (
       pass-sum (l .v) (z .result) (o .result) (l .inv .0),
       l .inv .1 ∙ walk-pass _ _ (c .before .before .before .before .before .before .before .before .before .before .args .s .now) (l .v) (z .result) (o .result) (omega arith) (z .ensures .is) (o .ensures .is) s (rw (ne-eqb _ _ (c .before .before .if4 .left), ne-eqb _ _ (c .before .if7 .left))),
     )

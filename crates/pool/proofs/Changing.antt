@@ -1,0 +1,274 @@
+-- The calls after which the queue is served, create and inquire. Assumes nothing.
+use Prim.Native.Nat.{ℕ, zero, suc, _+_, _-_, _%_, _≤_, _<_, max}
+use mathlib.Core.Path.{_≡_, refl, sym, ap, _∙_}
+use mathlib.Core.Bool.{true, false}
+use mathlib.Core.List.{List, [], _∷_, _++_, append-nil}
+use mathlib.Core.Option.{Option, none}
+use native.Mathlib.Omega.{arith}
+use native.Mathlib.Nat.{zero-add}
+use lib.ListN.{length, getD, replicate}
+use lib.Seq.{sets}
+use lib.Dec.{leb}
+use borrow.Author.Tests.{le-leb, lt-leb, eq-eqb, ne-eqb}
+use Rattle.model.specs.declared.BlockOffset.{BlockOffset}
+use Rattle.model.specs.declared.Entry.{Entry}
+use Rattle.model.specs.declared.Queue.{Queue}
+use Rattle.model.specs.declared.Woken.{Woken}
+use Rattle.model.specs.Limits.{most-tasks, longest-pool, e-ok, e-sys, e-par, e-id, e-obj, e-rlwai, e-tmout}
+use Rattle.model.specs.Blocks.{Block, block, fits, liveAt, freed, greatestFree}
+use Rattle.model.specs.Bytes.{blocksOf, render, erase, header, written, mask, overlay}
+use Rattle.model.specs.Waiting.{waits, remove, expired, remaining}
+use Rattle.model.specs.Rules.{okLong, okTask, queued, base}
+use Rattle.model.specs.Calls.{placeOf, noOffset, release, cancel, tick, inquire, Reply, Served, wake, leaves, leave, blocks, serve, tests, act}
+use Rattle.model.specs.Places.{noEntry, pad, used, tidy, entriesOf, queueOf, wokenOf}
+use Rattle.model.specs.Pool.{Stored, stored, view, settled, isSound, create, Result, result, answered, created, called, inquired, totals}
+use Rattle.model.proofs.Tests.{by}
+use Rattle.model.proofs.Blocks.{freed-total, freed-tiled, fits-greatest}
+use Rattle.model.proofs.Bytes.{erase-length, erase-render, erase-erase, tiled-roomy, freed-finer}
+use Rattle.model.proofs.Waiting.{remove-queued, remove-count, remaining-queued, expired-count, queued-length}
+use Rattle.model.proofs.Soundness.{leave-length}
+use Rattle.model.proofs.Places.{queued-live, used-pad, tidy-pad}
+use Rattle.model.proofs.Pool.{by-unsound, by-done}
+use Rattle.model.proofs.Base.{base-laws}
+use Rattle.layout.specs.declared.Spot.{Spot}
+use Rattle.layout.specs.declared.Target.the-variants as target
+use Rattle.layout.specs.declared.Found.the-variants as found
+use Rattle.layout.specs.declared.Surveyed.{Surveyed}
+use Rattle.layout.specs.Layout.{soundPool, seek, sought, put, Releasable, Released}
+use Rattle.layout.proofs.Sound.{open-pool}
+use Rattle.layout.proofs.Releasing.{around, found-live}
+use Rattle.layout.proofs.Finding.{no-spot, no-block}
+use Rattle.queue.specs.declared.Ticked.{Ticked}
+use Rattle.queue.specs.Entries.{tickedOf}
+use Rattle.queue.proofs.Places.{sets-behind}
+use Rattle.queue.proofs.Entries.{head-task}
+use Rattle.pool.specs.Steps.{refusal, blockAt, servedAs, Ready}
+use Rattle.pool.proofs.Inspecting.{Told, called-refused, called-done}
+use Rattle.pool.proofs.Serves.{Shown, shown}
+
+-- ---- before and after the queue is served
+
+-- no run is longer than the greatest, header included
+pub none-longer : (l : List ℕ) → soundPool l ≡ true → (need : ℕ) → greatestFree (blocksOf l) + 8 < need → fits need (blocksOf l) ≡ false
+none-longer l p need h =
+    fits-greatest most-tasks need false (blocksOf l) (omega arith) (open-pool l p .tiling) ∙ lt-leb need (greatestFree (blocksOf l) + 8) h
+
+-- entries in their places
+module _ (n : ℕ) (q : List Entry) (h : queued (base n) q ≡ true) where
+  pub short : length q ≤ most-tasks
+  short = omega (arith, queued-length (base n) q h, base-laws n .tasks-most)
+
+  pub placed-used : used (pad noEntry most-tasks q) ≡ q
+  placed-used = used-pad most-tasks q (queued-live (base n) q h) short
+
+  pub placed-tidy : tidy (pad noEntry most-tasks q) ≡ true
+  placed-tidy = tidy-pad most-tasks q (queued-live (base n) q h)
+
+pub ready : (l : List ℕ) (es q : List Entry) (k most : ℕ) → soundPool l ≡ true → es ≡ pad noEntry most-tasks q → queued (base (length l)) q ≡ true → k + length q ≤ most-tasks
+    → most ≡ greatestFree (blocksOf l) + 8 → Ready l es k most
+ready l es q k most p e h r m =
+    let u : used es ≡ q = ap used e ∙ placed-used (length l) q h in
+    record { pool = p; queue = rw u h; places = rw e (placed-tidy (length l) q h); room = rw u r; longest = λ need g. none-longer l p need (omega (arith, g, m)) }
+
+-- what the loop leaves is the reply: those who left first, then those who are served
+pub served-reply : (p : Stored) (x : List ℕ) (w first : List Woken) (k : ℕ) (v : Served (List Block)) → x ≡ erase (blocksOf (p .bytes)) (p .bytes) → w ≡ wokenOf first → k ≡ length first
+    → servedAs x w k v ≡ answered (settled p (wake first v))
+served-reply p x w first k v ex ew ek =
+    let s : sets w k (v .woken) ≡ wokenOf (first ++ v .woken) = rw (ew, ek) (sets-behind (record { task = 0; code = e-ok; offset = noOffset }) most-tasks first (v .woken)) in
+    λ i. result (record { code = e-ok; offset = noOffset; woken = s i; queue = queueOf (v .state .queue) }) (render (v .state .pool) (ex i))
+
+-- ---- release
+
+seek-nothing : (bs : List Block) (at free : ℕ) → seek (sought target.Nothing) at free bs ≡ found.Nothing
+unfolding seek
+seek-nothing [] at free = refl
+seek-nothing (b ∷ bs) at free = seek-nothing bs (at + b .size) _
+
+module _ (l : List ℕ) (q : Queue) (o : BlockOffset) (seen : Surveyed) (t : Told (blockAt o) l (q .entries) seen) where
+  abbrev bs : List Block
+  bs = blocksOf l
+
+  abbrev p : ℕ
+  p = placeOf o .0
+
+  pub release-refused : seen .found ≡ found.Nothing → result (refusal e-par q) l ≡ called (release o) l q
+  unfolding tests view
+  release-refused e =
+      let z = sym (t .found) ∙ e in
+      called-refused (release o) l q e-par (t .state)
+      (by (leb 8 (o .0))
+      (λ h. let d : liveAt p bs ≡ false = no-block most-tasks (placeOf o) bs (open-pool l (t .parts .pool) .tiling) (rw h at z) in rw (h, d))
+      (λ h. rw h))
+
+  module _ (s : Spot) (e : seen .found ≡ found.At s) where
+    far : leb 8 (o .0) ≡ true
+    far = by (leb 8 (o .0)) (λ h. h) (λ h. no-spot (sym (seek-nothing bs 0 0) ∙ (rw h at (sym (t .found) ∙ e))))
+
+    sits : seek (sought (target.Block (placeOf o))) 0 0 bs ≡ found.At s
+    sits = rw far at (sym (t .found) ∙ e)
+
+    live : liveAt p bs ≡ true
+    live = found-live most-tasks (placeOf o) bs s (open-pool l (t .parts .pool) .tiling) sits
+
+    pub spot-place : s .place .0 ≡ p
+    spot-place =
+        let a = around most-tasks false p bs (open-pool l (t .parts .pool) .tiling) live .spot 0 0 in
+        let z = sym sits ∙ (rw (zero-add p) at a) in
+        cc
+
+    pub releasable : Releasable l s
+    releasable = record { pool = t .parts .pool; live = ap (λ (i : ℕ). seek (sought (target.Block (record { 0 = i }))) 0 0 bs) spot-place ∙ sits }
+
+    module _ (l₁ : List ℕ) (r : ℕ) (d : Released l (s .place .0) l₁ r) where
+      abbrev news : List Block
+      news = freed p bs
+
+      bytes : l₁ ≡ render news (erase bs l)
+      bytes = rw spot-place at (d .bytes)
+
+      after : Shown (erase bs l) (render news (erase bs l)) (length l) news
+      after =
+          let u = open-pool l (t .parts .pool) in
+          shown (erase bs l) (length l) news (erase-length bs l) (freed-tiled most-tasks false p bs (u .tiling)) (freed-total p bs ∙ u .sums) l (t .parts .pool) refl
+
+      same-length : length l₁ ≡ length l
+      same-length = ap length bytes ∙ after .long
+
+      blocks-are : blocksOf l₁ ≡ news
+      blocks-are = ap blocksOf bytes ∙ after .blocks-are
+
+      erased : erase (blocksOf l₁) l₁ ≡ erase bs l
+      erased =
+          ap (λ (x : List Block). erase x l₁) blocks-are ∙ ap (erase news) bytes ∙ erase-render news (erase bs l)
+          ∙ erase-erase news bs l (freed-finer p bs (tiled-roomy most-tasks false bs (open-pool l (t .parts .pool) .tiling)))
+
+      pub release-ready : (most : ℕ) → most ≡ max r (seen .greatest + 8) → Ready l₁ (q .entries) 0 most
+      release-ready most m =
+          record {
+            pool = rw bytes (after .pool);
+            queue = rw same-length (t .parts .queue);
+            places = t .parts .places;
+            room = omega (arith, short (length l) (entriesOf q) (t .parts .queue));
+            longest = λ need g.
+                let a : leb need r ≡ false = lt-leb need r (omega (arith, g, m)) in
+                let b : fits need bs ≡ false = none-longer l (t .parts .pool) need (omega (arith, g, m, t .greatest)) in
+                rw (blocks-are) (rw spot-place at (d .runs need) ∙ rw (a, b));
+          }
+
+      pub release-done : (a : Result) (w : List Woken) → w ≡ wokenOf []
+          → a ≡ servedAs (erase (blocksOf l₁) l₁) w 0 (serve (base (length l₁)) (blocks (base (length l₁))) (blocksOf l₁) (entriesOf q)) → a ≡ called (release o) l q
+      unfolding tests act view
+      release-done a w ew e =
+          e ∙ (λ i. servedAs (erased i) w 0 (serve (base (same-length i)) (blocks (base (same-length i))) (blocks-are i) (entriesOf q)))
+          ∙ served-reply (stored l q) (erase bs l) w [] 0 (serve (base (length l)) (blocks (base (length l))) news (entriesOf q)) refl ew refl
+          ∙ called-done (release o) l q (t .state) (rw (far, live))
+
+-- ---- cancel and tick
+
+module _ (l : List ℕ) (q : Queue) (seen : Surveyed) (t : Told target.Nothing l (q .entries) seen) where
+  module _ (task : ℕ) where
+    pub cancel-unknown : okTask (base (length l)) task ≡ false → result (refusal e-id q) l ≡ called (cancel task) l q
+    unfolding tests view
+    cancel-unknown h = called-refused (cancel task) l q e-id (t .state) (rw h)
+
+    module _ (h : okTask (base (length l)) task ≡ true) where
+      pub cancel-idle : waits task (entriesOf q) ≡ false → result (refusal e-obj q) l ≡ called (cancel task) l q
+      unfolding tests view
+      cancel-idle w = called-refused (cancel task) l q e-obj (t .state) (rw (h, w))
+
+      module _ (w : waits task (entriesOf q) ≡ true) (es : List Entry) (e : es ≡ pad noEntry most-tasks (remove task (entriesOf q))) where
+        left : queued (base (length l)) (remove task (entriesOf q)) ≡ true
+        left = remove-queued (base (length l)) task (entriesOf q) (t .parts .queue)
+
+        pub cancel-ready : (most : ℕ) → most ≡ seen .greatest + 8 → Ready l es 1 most
+        cancel-ready most m =
+            ready l es (remove task (entriesOf q)) 1 most (t .parts .pool) e left
+            (omega (arith, short (length l) (entriesOf q) (t .parts .queue), remove-count task (entriesOf q) w)) (omega (arith, m, t .greatest))
+
+        pub cancel-done : (a : Result) (ws : List Woken) → ws ≡ wokenOf (leaves e-rlwai task ∷ [])
+            → a ≡ servedAs (erase (blocksOf l) l) ws 1 (serve (base (length l)) (blocks (base (length l))) (blocksOf l) (used es)) → a ≡ called (cancel task) l q
+        unfolding tests act view
+        cancel-done a ws ew g =
+            let u : used es ≡ remove task (entriesOf q) = ap used e ∙ placed-used (length l) (remove task (entriesOf q)) left in
+            g ∙ ap (λ (x : List Entry). servedAs (erase (blocksOf l) l) ws 1 (serve (base (length l)) (blocks (base (length l))) (blocksOf l) x)) u
+            ∙ served-reply (stored l q) (erase (blocksOf l) l) ws (leaves e-rlwai task ∷ []) 1 _ refl ew refl
+            ∙ called-done (cancel task) l q (t .state) (rw (h, w))
+
+  module _ (ticked : Ticked) (e : ticked ≡ tickedOf (q .entries)) where
+    abbrev stay : List Entry
+    stay = remaining (entriesOf q)
+
+    stays : queued (base (length l)) stay ≡ true
+    stays = remaining-queued (base (length l)) (base-laws (length l)) (entriesOf q) (t .parts .queue)
+
+    places-are : ticked .entries ≡ pad noEntry most-tasks stay
+    places-are = ap (λ (x : Ticked). x .entries) e
+
+    count-is : ticked .count ≡ length (expired (entriesOf q))
+    count-is = ap (λ (x : Ticked). x .count) e
+
+    pub tick-ready : (most : ℕ) → most ≡ seen .greatest + 8 → Ready l (ticked .entries) (ticked .count) most
+    tick-ready most m =
+        ready l (ticked .entries) stay (ticked .count) most (t .parts .pool) places-are stays
+        (omega (arith, short (length l) (entriesOf q) (t .parts .queue), expired-count (entriesOf q), count-is)) (omega (arith, m, t .greatest))
+
+    pub tick-done : (a : Result)
+        → a ≡ servedAs (erase (blocksOf l) l) (ticked .woken) (ticked .count) (serve (base (length l)) (blocks (base (length l))) (blocksOf l) (used (ticked .entries)))
+        → a ≡ called tick l q
+    unfolding tests act view
+    tick-done a g =
+        let u : used (ticked .entries) ≡ stay = ap used places-are ∙ placed-used (length l) stay stays in
+        g ∙ ap (λ (x : List Entry). servedAs (erase (blocksOf l) l) (ticked .woken) (ticked .count) (serve (base (length l)) (blocks (base (length l))) (blocksOf l) x)) u
+        ∙ served-reply (stored l q) (erase (blocksOf l) l) (ticked .woken) (leave e-tmout (expired (entriesOf q))) (ticked .count) _ refl
+        (ap (λ (x : Ticked). x .woken) e) (count-is ∙ sym (leave-length e-tmout (expired (entriesOf q))))
+        ∙ called-done tick l q (t .state) refl
+
+-- ---- inquire
+
+module _ (l : List ℕ) (q : Queue) where
+  pub inquire-unsound : isSound base (stored l q) ≡ false → record { code = e-sys; sum = 0; greatest = 0; head = 0 } ≡ inquired l q
+  inquire-unsound h = sym (ap (λ (r : Reply Stored). totals (r .said)) (by-unsound (base (length l)) inquire (stored l q) h))
+
+  pub inquire-done : (seen : Surveyed) → Told target.Nothing l (q .entries) seen
+      → record { code = e-ok; sum = seen .sum; greatest = seen .greatest; head = getD (q .entries) 0 noEntry .task } ≡ inquired l q
+  unfolding tests act view
+  inquire-done seen t =
+      (λ i. record { code = e-ok; sum = t .sum i; greatest = t .greatest i; head = sym (head-task (q .entries)) i })
+      ∙ sym (ap (λ (r : Reply Stored). totals (r .said)) (by-done (base (length l)) inquire (stored l q) (t .state) refl))
+
+-- ---- create
+
+overlay-nones : (k : ℕ) (l : List ℕ) → overlay (replicate k none) l ≡ l
+unfolding overlay
+overlay-nones zero l = refl
+overlay-nones (suc k) [] = refl
+overlay-nones (suc k) (x ∷ l) = ap (λ (r : List ℕ). x ∷ r) (overlay-nones k l)
+
+overlay-first : (xs : List ℕ) (k : ℕ) (l : List ℕ) → overlay (written xs) l ≡ overlay (written xs ++ replicate k none) l
+unfolding overlay written
+overlay-first [] k l = sym (overlay-nones k l)
+overlay-first (x ∷ xs) k [] = refl
+overlay-first (x ∷ xs) k (y ∷ l) = ap (λ (r : List ℕ). x ∷ r) (overlay-first xs k l)
+
+module _ (l : List ℕ) (q : Queue) (e : q ≡ queueOf []) where
+  refused-length : okLong (length l) ≡ false → result (refusal e-par q) l ≡ created l
+  unfolding create base
+  refused-length h = rw (e, h)
+
+  pub create-uneven : (length l % 4 ≡ 0 → ⊥) → result (refusal e-par q) l ≡ created l
+  create-uneven h = refused-length (rw (ne-eqb (length l % 4) 0 h))
+
+  pub create-short : length l % 4 ≡ 0 → length l < 12 → result (refusal e-par q) l ≡ created l
+  create-short d h = refused-length (rw (eq-eqb (length l % 4) 0 d, lt-leb 12 (length l) h))
+
+  pub create-long : length l % 4 ≡ 0 → 12 ≤ length l → longest-pool < length l → result (refusal e-par q) l ≡ created l
+  create-long d g h = refused-length (rw (eq-eqb (length l % 4) 0 d, le-leb 12 (length l) g, lt-leb (length l) longest-pool h))
+
+  pub create-done : length l % 4 ≡ 0 → 12 ≤ length l → length l ≤ longest-pool → (l′ : List ℕ) → l′ ≡ put 0 (header (block (length l) 0)) l → result (refusal e-ok q) l′ ≡ created l
+  unfolding create base put render mask
+  create-done d g h l′ el =
+      let ok : okLong (length l) ≡ true = rw (eq-eqb (length l % 4) 0 d, le-leb 12 (length l) g, le-leb (length l) longest-pool h) in
+      let b = block (length l) 0 in
+      let bytes : l′ ≡ overlay ((written (header b) ++ replicate (length l - 8) none) ++ []) l =
+      el ∙ overlay-first (header b) (length l - 8) l ∙ ap (λ (m : List (Option ℕ)). overlay m l) (sym (append-nil _)) in
+      rw (e, ok) (ap (λ (x : List ℕ). result (refusal e-ok (queueOf [])) x) bytes)

@@ -1,0 +1,209 @@
+-- Requests: the tests, and what follows where none refuses. Assumes nothing.
+use Prim.Native.Nat.{ℕ, zero, suc, _+_}
+use mathlib.Core.Path.{_≡_, refl, sym, ap, _∙_}
+use mathlib.Core.Bool.{Bool, true, false, not, cond, _&&_}
+use mathlib.Core.List.{List, []}
+use mathlib.Core.Option.{Option, none, some}
+use native.Mathlib.Omega.{arith}
+use lib.ListN.{length, getD}
+use lib.Dec.{eqb}
+use lib.IntN.{ℤ, pos, negsuc}
+use mir.Syntax.{w32}
+use mir.Val.{ofZ, toZ}
+use borrow.Author.Tests.{ne-eqb}
+use Rattle.model.specs.declared.BlockOffset.{BlockOffset}
+use Rattle.model.specs.declared.Entry.{Entry}
+use Rattle.model.specs.declared.Queue.{Queue}
+use Rattle.model.specs.declared.Woken.{Woken}
+use Rattle.model.specs.declared.Answer.{Answer}
+use Rattle.model.specs.Limits.{most-tasks, e-ok, e-id, e-par, e-ctx, e-tmout}
+use Rattle.model.specs.Blocks.{Block, fits, firstFit, granted}
+use Rattle.model.specs.Bytes.{blocksOf}
+use Rattle.model.specs.Waiting.{waits}
+use Rattle.model.specs.Rules.{Rules, okTask, okSize, needOf, base}
+use Rattle.model.specs.Calls.{offsetOf, Request, get, deny, okLimit, isPoll, leftOf, entryOf, State, state, blocks, goes, tests, act}
+use Rattle.model.specs.Places.{noEntry, entriesOf, wokenOf}
+use Rattle.model.specs.Pool.{stored, view, performBy, isSound, result, answered, called}
+use Rattle.model.proofs.Tests.{by, and-l, and-f-r, not-f}
+use Rattle.model.proofs.Bytes.{Bytes}
+use Rattle.model.proofs.Soundness.{no-some, past}
+use Rattle.model.proofs.Base.{base-laws}
+use Rattle.layout.specs.declared.Spot.{Spot}
+use Rattle.layout.specs.declared.Target.the-variants as target
+use Rattle.layout.specs.declared.Found.{Found}
+use Rattle.layout.specs.declared.Found.the-variants as found
+use Rattle.layout.specs.Layout.{seek, sought, changed, Grantable}
+use Rattle.layout.proofs.Finding.{no-spot, found-run, no-run}
+use Rattle.queue.specs.declared.Slot.{Slot}
+use Rattle.queue.specs.declared.Slot.the-variants as slot
+use Rattle.queue.specs.Entries as Q
+use Rattle.queue.proofs.Entries.{head-blocks, room}
+use Rattle.pool.specs.declared.request.Verdict.{Verdict}
+use Rattle.pool.specs.declared.request.Verdict.the-variants.{Refuse, Go}
+use Rattle.pool.specs.Steps.{request, entry, refusal, asked, judged, placed, runFor, held, admitted, Held, Fair}
+use Rattle.pool.proofs.Inspecting.{State as Parts, open-state, called-refused, kept-bytes, kept-queue}
+
+-- ---- the tests but for the last
+
+module _ (n t s : ℕ) (l : ℤ) (q : List Entry) where
+  abbrev verdictOf : Verdict
+  verdictOf = judged (asked (base n) (request t s l) q) l
+
+  pub task-refused : okTask (base n) t ≡ false → Refuse e-id ≡ verdictOf
+  task-refused a = rw a
+
+  module _ (a : okTask (base n) t ≡ true) where
+    pub size-refused : okSize n s ≡ false → Refuse e-par ≡ verdictOf
+    unfolding base
+    size-refused b = rw (a, b)
+
+    module _ (b : okSize n s ≡ true) where
+      pub limit-refused : okLimit l ≡ false → Refuse e-par ≡ verdictOf
+      unfolding base
+      limit-refused d = rw (a, b, d)
+
+      pub slot-judged : (x : Slot) (p : Bool) (left : ℕ) → okLimit l ≡ true → x ≡ Q.found t q → p ≡ isPoll l → left ≡ cond (isPoll l) 0 (leftOf l) → placed x p left ≡ verdictOf
+      unfolding base
+      slot-judged x p left d e ep el =
+          by (waits t q)
+          (λ w. let f : x ≡ slot.At (0 + Q.place t q) = e ∙ rw w in rw (f, a, b, d, w))
+          (λ w. let f : x ≡ slot.Nothing = e ∙ rw w in rw (f, a, b, d, w) (λ i. Go (ep i) (el i)))
+
+-- ---- tests of a get
+
+module _ (K : Rules) (r : Request) (s : State (List Block)) where
+  pub asked-some : (k : ℤ) → asked K r (s .queue) ≡ some k → tests K (blocks K) (get r) s ≡ some k
+  unfolding tests
+  asked-some k e =
+      let a = okTask K (r .task) in
+      let b = K .allowed (entryOf r) && okLimit (r .limit) in
+      let w = waits (r .task) (s .queue) in
+      by a
+      (λ ha. by b
+      (λ hb. by w
+      (λ hw. rw (ha, hb, hw) (rw (ha, hb, hw) at e))
+      (λ hw. no-some (sym (rw (ha, hb, hw) at e))))
+      (λ hb. rw (ha, hb) (rw (ha, hb) at e)))
+      (λ ha. rw ha (rw ha at e))
+
+  pub asked-none : asked K r (s .queue) ≡ none → tests K (blocks K) (get r) s ≡ deny (isPoll (r .limit) && not (goes K (blocks K) (entryOf r) s)) e-tmout none
+  unfolding tests
+  asked-none e =
+      let p = past (not (okTask K (r .task))) e-id _ e in
+      let q = past (not (K .allowed (entryOf r) && okLimit (r .limit))) e-par _ (p .1) in
+      let w = past (waits (r .task) (s .queue)) e-ctx none (q .1) in
+      rw (not-f (okTask K (r .task)) (p .0), not-f (K .allowed (entryOf r) && okLimit (r .limit)) (q .0), w .0)
+
+-- each code fits a register
+deny-kept : (b : Bool) (c : ℤ) (rest : Option ℤ) (k : ℤ) → toZ w32 (ofZ w32 c) ≡ c → (rest ≡ some k → toZ w32 (ofZ w32 k) ≡ k) → deny b c rest ≡ some k → toZ w32 (ofZ w32 k) ≡ k
+deny-kept true c rest k p f e = let g : c ≡ k = cc in rw g at p
+deny-kept false c rest k p f e = f e
+
+code-kept : (K : Rules) (r : Request) (q : List Entry) (k : ℤ) → asked K r q ≡ some k → toZ w32 (ofZ w32 k) ≡ k
+code-kept K r q k e = deny-kept (not (okTask K (r .task))) e-id _ k refl (deny-kept (not (K .allowed (entryOf r) && okLimit (r .limit))) e-par _ k refl (deny-kept (waits (r .task) q) e-ctx none k refl (λ z. no-some (sym z)))) e
+
+pub judged-refuse : (v : Option ℤ) (l : ℤ) (k : ℤ) → judged v l ≡ Refuse k → v ≡ some k
+judged-refuse (some c) l k e = let g : c ≡ k = cc in ap some g
+judged-refuse none l k e = absurd (let z : _≡_ {A = ℕ} 0 1 = cc in omega arith)
+
+pub record Goes (v : Option ℤ) (l : ℤ) (p : Bool) (left : ℕ) : Type 0 where
+  pub passes : v ≡ none
+  pub poll : p ≡ isPoll l
+  pub time : left ≡ cond (isPoll l) 0 (leftOf l)
+
+pub judged-go : (v : Option ℤ) (l : ℤ) (p : Bool) (left : ℕ) → judged v l ≡ Go p left → Goes v l p left
+judged-go (some c) l p left e = absurd (let z : _≡_ {A = ℕ} 0 1 = cc in omega arith)
+judged-go none l p left e = record { passes = refl; poll = cc; time = cc }
+
+time-left : (l : ℤ) → cond (isPoll l) 0 (leftOf l) ≡ leftOf l
+time-left (pos zero) = refl
+time-left (pos (suc n)) = rw (ne-eqb (suc n) 0 (λ z. omega arith))
+time-left (negsuc n) = refl
+
+module _ (l : List ℕ) (q : Queue) (t n : ℕ) (limit : ℤ) where
+  abbrev K : Rules
+  K = base (length l)
+
+  abbrev r : Request
+  r = request t n limit
+
+  pub get-refused : (k : ℤ) → isSound base (stored l q) ≡ true → judged (asked K r (entriesOf q)) limit ≡ Refuse k → result (refusal (toZ w32 (ofZ w32 k)) q) l ≡ called (get r) l q
+  unfolding view
+  get-refused k h e =
+      let s = judged-refuse (asked K r (entriesOf q)) limit k e in
+      rw (code-kept K r (entriesOf q) k s) (called-refused (get r) l q k h (asked-some K r (view (stored l q)) k s))
+
+  pub get-admitted : (p : Bool) (left : ℕ) → isSound base (stored l q) ≡ true → judged (asked K r (entriesOf q)) limit ≡ Go p left
+      → answered (admitted (stored l q) (entry t n left) p) ≡ called (get r) l q
+  unfolding performBy act view
+  get-admitted p left h e =
+      let g = judged-go (asked K r (entriesOf q)) limit p left e in
+      let time : left ≡ leftOf limit = g .time ∙ time-left limit in
+      let poll = g .poll in
+      rw (time, poll, h, asked-none K r (view (stored l q)) (g .passes))
+
+  pub get-fair : (p : Bool) (left : ℕ) (f : Found) → isSound base (stored l q) ≡ true → judged (asked K r (entriesOf q)) limit ≡ Go p left
+      → f ≡ seek (sought (target.Run (needOf n))) 0 0 (blocksOf l) → Fair l q (entry t n left) f
+  unfolding base
+  get-fair p left f h e run =
+      let g = judged-go (asked K r (entriesOf q)) limit p left e .passes in
+      let a = past (not (okTask K t)) e-id _ g in
+      let b = past (not (K .allowed (entryOf r) && okLimit limit)) e-par _ (a .1) in
+      let w = past (waits t (entriesOf q)) e-ctx none (b .1) in
+      record {
+        state = h;
+        task = not-f (okTask K t) (a .0);
+        size = and-l (K .allowed (entryOf r)) (okLimit limit) (not-f _ (b .0));
+        away = w .0;
+        run = run;
+      }
+
+-- ---- a request that no test refused
+
+module _ (l : List ℕ) (q : Queue) (e : Entry) (f : Found) (fair : Fair l q e f) where
+  abbrev base-K : Rules
+  base-K = base (length l)
+
+  parts : Parts l (q .entries)
+  parts = open-state l (q .entries) (fair .state)
+
+  pub fair-held : Held q
+  fair-held = record { places = parts .places; room = room base-K (base-laws (length l)) e (entriesOf q) (fair .task) (fair .size) (fair .away) (parts .queue) }
+
+  -- nobody waits, and the run found
+  goes-is : goes base-K (blocks base-K) e (view (stored l q)) ≡ eqb (getD (q .entries) 0 noEntry .task) 0 && fits (needOf (e .size)) (blocksOf l)
+  unfolding view base
+  goes-is = by (eqb (getD (q .entries) 0 noEntry .task) 0) (λ z. rw (head-blocks (q .entries) 0, z)) (λ z. rw (head-blocks (q .entries) 0, z))
+
+  none-goes : runFor (q .entries) f ≡ found.Nothing → goes base-K (blocks base-K) e (view (stored l q)) ≡ false
+  none-goes n =
+      goes-is ∙ by (eqb (getD (q .entries) 0 noEntry .task) 0)
+      (λ z. let g : f ≡ found.Nothing = rw z at n in rw (z, no-run (needOf (e .size)) (blocksOf l) (sym (fair .run) ∙ g)))
+      (λ z. rw z)
+
+  pub admit-held : (a : Answer) (p : Bool) → length (q .entries) ≡ most-tasks → Bytes l → runFor (q .entries) f ≡ found.Nothing → a ≡ held q e p → result a l ≡ answered (admitted (stored l q) e p)
+  unfolding view base
+  admit-held a p n w o ea =
+      let g = none-goes o in
+      by p
+      (λ h. rw (ea, h, g))
+      (λ h. rw (ea, h, g) (ap (λ (y : List ℕ). result (held q e false) y) (sym (kept-bytes l q w parts))))
+
+  module _ (s : Spot) (o : runFor (q .entries) f ≡ found.At s) where
+    ran : (eqb (getD (q .entries) 0 noEntry .task) 0 ≡ true) × (f ≡ found.At s)
+    ran = by (eqb (getD (q .entries) 0 noEntry .task) 0) (λ z. (z, rw z at o)) (λ z. no-spot (rw z at o))
+
+    fit : (fits (needOf (e .size)) (blocksOf l) ≡ true) × (s .place .0 ≡ firstFit (needOf (e .size)) (blocksOf l))
+    fit = found-run (needOf (e .size)) (blocksOf l) s (sym (fair .run) ∙ ran .1)
+
+    pub admit-grantable : Grantable l (s .place) (needOf (e .size))
+    unfolding base
+    admit-grantable = record { pool = parts .pool; least = base-laws (length l) .need-least e (fair .size); run = fit .0; place-is = fit .1 }
+
+    pub admit-granted : (a : BlockOffset) (w : List Woken) (l′ : List ℕ) (p : Bool) → length (q .entries) ≡ most-tasks → a ≡ offsetOf (s .place) → w ≡ wokenOf []
+        → l′ ≡ changed (granted (needOf (e .size)) (e .task)) l → result (record { code = e-ok; offset = a; woken = w; queue = q }) l′ ≡ answered (admitted (stored l q) e p)
+    unfolding view base
+    admit-granted a w l′ p n ea ew el =
+        let g : goes base-K (blocks base-K) e (view (stored l q)) ≡ true = goes-is ∙ rw (ran .0, fit .0) in
+        let place : a ≡ offsetOf (record { 0 = firstFit (needOf (e .size)) (blocksOf l) }) = ea ∙ ap {B = BlockOffset} (λ (i : ℕ). record { 0 = i + 8 }) (fit .1) in
+        rw (g, and-f-r p false refl) (λ i. result (record { code = e-ok; offset = place i; woken = ew i; queue = sym (kept-queue l q n parts) i }) (el i))

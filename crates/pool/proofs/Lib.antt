@@ -1,0 +1,5 @@
+pub mod Inspecting
+pub mod Serves
+pub mod Judging
+pub mod Changing
+pub mod Theorems

@@ -1,0 +1,13 @@
+-- `pool::request::place` meets its contract. Assumes nothing.
+use borrow.Author.Needs.{needs}
+use Rattle.pool.proofs.request.place.Statement.{statement}
+use Rattle.pool.proofs.request.place.Tie as tie
+
+pub place-spec : {M : Type 1} → statement M
+place-spec =
+    tie.close
+    (tie.spec
+    (λ c. search needs)
+    (λ c. search needs)
+    (λ c. rw (c .enum-told .given .1))
+    (λ c. rw (c .enum-told2 .given .1)))

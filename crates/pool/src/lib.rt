@@ -1,0 +1,163 @@
+// The calls of the pool: each tests the state and its numbers, and only then changes anything.
+use layout::Found;
+use layout::Target;
+use layout::change;
+use layout::header;
+use model::Answer;
+use model::BlockOffset;
+use model::E_ID;
+use model::E_OBJ;
+use model::E_PAR;
+use model::E_RLWAI;
+use model::E_SYS;
+use model::HeaderPlace;
+use model::LONGEST_POOL;
+use model::Queue;
+use model::Totals;
+use model::Woken;
+use queue::Slot;
+use request::Verdict;
+ghost use mathlib.Core.Path.{_≡_};
+ghost use Rattle.model.specs.Calls.{Call};
+ghost use Rattle.model.specs.Calls as calls;
+ghost use Rattle.model.specs.Pool.{result, created, called, inquired};
+ghost use Rattle.pool.specs.Steps.{request};
+
+pub mod request;
+pub mod serving;
+pub mod state;
+
+// One free run of all bytes, and an empty queue.
+pub fn create(pool: &mut [u8]) -> Answer
+    ensures { λ r. ⌜ result r (now (pool .exit)) ≡ created (now (pool .entry)) ⌝ }
+{
+    let n = pool.len();
+    let queue = Queue {
+        entries: queue::empty(),
+    };
+    if n % 4 != 0 {
+        return state::refuse(E_PAR, queue);
+    }
+    if n < 12 {
+        return state::refuse(E_PAR, queue);
+    }
+    if LONGEST_POOL < n {
+        return state::refuse(E_PAR, queue);
+    }
+    header::write_header(pool, HeaderPlace(0), n, 0);
+    state::refuse(0, queue)
+}
+
+// A block for a task: granted where nobody waits and a run fits, else the task waits, for so many ticks, forever (-1) or not at all (0).
+pub fn get(pool: &mut [u8], queue: Queue, task: u32, size: u32, limit: i32) -> Answer
+    ensures { λ r. ⌜ result r (now (pool .exit)) ≡ called (calls.get (request task size limit)) (now (pool .entry)) queue ⌝ }
+{
+    let need = state::need(size);
+    let entries = queue.entries;
+    let seen = state::inspect(pool, entries, Target::Run(need));
+    if !seen.sound {
+        return state::refuse(E_SYS, queue);
+    }
+    let n = pool.len();
+    let verdict = request::judge(entries, n, task, size, limit);
+    let found = seen.found;
+    match verdict {
+        Verdict::Refuse(code) => state::refuse(code, queue),
+        Verdict::Go(poll, left) => request::admit(pool, queue, task, size, poll, left, found),
+    }
+}
+
+// A block for a task, or a refusal at once.
+pub fn poll(pool: &mut [u8], queue: Queue, task: u32, size: u32) -> Answer
+    ensures { λ r. ⌜ result r (now (pool .exit)) ≡ called (calls.poll task size) (now (pool .entry)) queue ⌝ }
+{
+    get(pool, queue, task, size, 0)
+}
+
+// The block at an offset becomes free, and the queue is served.
+pub fn release(pool: &mut [u8], queue: Queue, offset: BlockOffset) -> Answer
+    ensures { λ r. ⌜ result r (now (pool .exit)) ≡ called (calls.release offset) (now (pool .entry)) queue ⌝ }
+{
+    let target = state::block_at(offset);
+    let entries = queue.entries;
+    let seen = state::inspect(pool, entries, target);
+    if !seen.sound {
+        return state::refuse(E_SYS, queue);
+    }
+    let found = seen.found;
+    let Found::At(spot) = found else {
+        return state::refuse(E_PAR, queue);
+    };
+    let run = change::release_at(pool, spot);
+    let most = state::greater(run, seen.greatest + 8);
+    serving::serve(pool, entries, queue::nobody(), 0, most)
+}
+
+// A waiting task leaves the queue, and the queue is served.
+pub fn cancel(pool: &mut [u8], queue: Queue, task: u32) -> Answer
+    ensures { λ r. ⌜ result r (now (pool .exit)) ≡ called (calls.cancel task) (now (pool .entry)) queue ⌝ }
+{
+    let entries = queue.entries;
+    let seen = state::inspect(pool, entries, Target::Nothing);
+    if !seen.sound {
+        return state::refuse(E_SYS, queue);
+    }
+    if !queue::is_task(task) {
+        return state::refuse(E_ID, queue);
+    }
+    let slot = queue::find(entries, task);
+    let Slot::At(place) = slot else {
+        return state::refuse(E_OBJ, queue);
+    };
+    let mut woken = queue::nobody();
+    woken[0] = Woken {
+        task: task,
+        code: E_RLWAI,
+        offset: BlockOffset(0),
+    };
+    serving::serve(
+        pool,
+        queue::remove(entries, place),
+        woken,
+        1,
+        seen.greatest + 8,
+    )
+}
+
+// Every limited wait loses a tick, those that reach none leave, and the queue is served.
+pub fn tick(pool: &mut [u8], queue: Queue) -> Answer
+    ensures { λ r. ⌜ result r (now (pool .exit)) ≡ called calls.tick (now (pool .entry)) queue ⌝ }
+{
+    let entries = queue.entries;
+    let seen = state::inspect(pool, entries, Target::Nothing);
+    if !seen.sound {
+        return state::refuse(E_SYS, queue);
+    }
+    let ticked = queue::tick(entries);
+    let stay = ticked.entries;
+    let woken = ticked.woken;
+    serving::serve(pool, stay, woken, ticked.count, seen.greatest + 8)
+}
+
+// The sum of the free runs and the greatest, each less its header, and the head's task.
+pub fn inquire(pool: &[u8], queue: Queue) -> Totals
+    ensures { λ r. ⌜ r ≡ inquired (now (pool .entry)) queue ⌝ }
+{
+    let entries = queue.entries;
+    let seen = state::inspect(pool, entries, Target::Nothing);
+    let head = entries[0];
+    if !seen.sound {
+        return Totals {
+            code: E_SYS,
+            sum: 0,
+            greatest: 0,
+            head: 0,
+        };
+    }
+    Totals {
+        code: 0,
+        sum: seen.sum,
+        greatest: seen.greatest,
+        head: head.task,
+    }
+}

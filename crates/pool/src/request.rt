@@ -1,0 +1,124 @@
+// Requests for a block: the tests, and what follows where none refuses.
+use crate::state;
+use layout::Found;
+use layout::change;
+use layout::header;
+use model::Answer;
+use model::BlockOffset;
+use model::E_CTX;
+use model::E_ID;
+use model::E_PAR;
+use model::E_TMOUT;
+use model::Entry;
+use model::Queue;
+use model::TASKS;
+use model::WAITING;
+use queue::Limit;
+use queue::Slot;
+ghost use mathlib.Core.Path.{_≡_};
+ghost use Rattle.model.specs.Rules.{base};
+ghost use Rattle.model.specs.Places.{used};
+ghost use Rattle.model.specs.Pool.{result, answered, stored};
+ghost use Rattle.pool.specs.Steps.{request, entry, asked, judged, placed, runFor, held, admitted, Fair, Held};
+
+// What a request meets: a code, or whether it polls and how long it may wait.
+pub enum Verdict {
+    Refuse(i32),
+    Go(bool, u32),
+}
+
+// A task that waits may not ask.
+fn place(slot: Slot, poll: bool, left: u32) -> Verdict
+    ensures { λ r. ⌜ r ≡ placed slot poll left ⌝ }
+{
+    match slot {
+        Slot::At(_) => Verdict::Refuse(E_CTX),
+        Slot::Nothing => Verdict::Go(poll, left),
+    }
+}
+
+// The tests of a request in a sound state of `n` bytes, in order.
+pub fn judge(entries: [Entry; TASKS], n: usize, task: u32, size: u32, limit: i32) -> Verdict
+    ensures { λ r. ⌜ r ≡ judged (asked (base n) (request task size limit) (used entries)) limit ⌝ }
+{
+    if !queue::is_task(task) {
+        return Verdict::Refuse(E_ID);
+    }
+    if !queue::is_size(n, size) {
+        return Verdict::Refuse(E_PAR);
+    }
+    let slot = queue::find(entries, task);
+    let wait = queue::wait_of(limit);
+    match wait {
+        Limit::Refused => Verdict::Refuse(E_PAR),
+        Limit::Poll => place(slot, true, 0),
+        Limit::Wait(left) => place(slot, false, left),
+    }
+}
+
+// The run that a request may have: none while anybody waits.
+fn run_for(entries: [Entry; TASKS], found: Found) -> Found
+    ensures { λ r. ⌜ r ≡ runFor entries found ⌝ }
+{
+    let head = entries[0];
+    if head.task == 0 {
+        found
+    } else {
+        Found::Nothing
+    }
+}
+
+// A request that cannot be granted at once: a poll is refused, any other joins the queue.
+fn hold(queue: Queue, e: Entry, poll: bool) -> Answer
+    requires { ⌜ Held queue ⌝ }
+    ensures { λ r. ⌜ r ≡ held queue e poll ⌝ }
+{
+    if poll {
+        return state::refuse(E_TMOUT, queue);
+    }
+    let entries = queue.entries;
+    Answer {
+        code: WAITING,
+        offset: BlockOffset(0),
+        woken: queue::nobody(),
+        queue: Queue {
+            entries: queue::join(entries, e),
+        },
+    }
+}
+
+// A request that no test refused.
+pub fn admit(
+    pool: &mut [u8],
+    queue: Queue,
+    task: u32,
+    size: u32,
+    poll: bool,
+    left: u32,
+    found: Found,
+) -> Answer
+    requires { ⌜ Fair (now pool) queue (entry task size left) found ⌝ }
+    ensures { λ r. ⌜ result r (now (pool .exit)) ≡ answered (admitted (stored (now (pool .entry)) queue) (entry task size left) poll) ⌝ }
+{
+    let entries = queue.entries;
+    let run = run_for(entries, found);
+    let Found::At(spot) = run else {
+        return hold(
+            queue,
+            Entry {
+                task: task,
+                size: size,
+                left: left,
+            },
+            poll,
+        );
+    };
+    let at = spot.place;
+    change::grant_at(pool, at, state::need(size), task as usize);
+    Answer {
+        code: 0,
+        offset: header::offset_of(at),
+        woken: queue::nobody(),
+        queue: queue,
+    }
+}

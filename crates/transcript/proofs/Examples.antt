@@ -1,0 +1,104 @@
+-- The text of document 01's log, and of other logs, by computation. Assumes nothing.
+use Prim.Native.Nat.{ℕ}
+use mathlib.Core.Path.{_≡_, refl}
+use mathlib.Core.List.{List, [], _∷_, _++_}
+use lib.IntN.{negsuc}
+use Rattle.model.specs.Blocks.{total, tiled, fits, firstFit, carve, granted, liveAt, join, freed, sumFree, greatestFree}
+use Rattle.model.specs.Bytes.{blocksFrom, le32, header, overlay, written, mask, render, erase}
+use Rattle.model.specs.Waiting.{waits, remove, headTask, insert, blocked, leads, expired, remaining}
+use Rattle.model.specs.Rules.{queued, base}
+use Rattle.model.specs.Calls.{leave, serve, headStuck, sound, tests, act}
+use Rattle.model.specs.Places.{pad, used, allUnused, tidy}
+use Rattle.model.specs.Pool.{view, soundBy, performBy, create}
+use Rattle.numbers.specs.Number.{decode}
+use Rattle.log.specs.Fields.{readFields}
+use Rattle.log.specs.Record.{limitOf, recordOf}
+use Rattle.transcript.specs.Text.{digits, decimal, signed}
+use Rattle.transcript.specs.Transcript.{wokenText, answerText, recordsText, poolText, transcriptOf}
+
+zero : decimal 0 ≡ 48 ∷ []
+unfolding digits
+zero = refl
+
+hundred : decimal 100 ≡ 49 ∷ 48 ∷ 48 ∷ []
+unfolding digits
+hundred = refl
+
+least : signed (negsuc 2147483647) ≡ 45 ∷ 50 ∷ 49 ∷ 52 ∷ 55 ∷ 52 ∷ 56 ∷ 51 ∷ 54 ∷ 52 ∷ 56 ∷ []
+unfolding digits
+least = refl
+
+-- document 01's log
+abbrev log : List ℕ
+log = 0x40 ∷ 0x01 ∷ 0x01 ∷ 0x0A ∷ 0x00 ∷ 0x01 ∷ 0x02 ∷ 0x14 ∷ 0x00 ∷ 0x02 ∷ 0x05 ∷ 0x0C ∷ 0x03 ∷ 0x08 ∷ 0x01 ∷ 0x03 ∷ 0x18 ∷ 0x00 ∷ 0x03 ∷ 0x1C ∷ []
+
+abbrev log-text : List ℕ
+log-text =
+    (112 ∷ 111 ∷ 111 ∷ 108 ∷ 32 ∷ 54 ∷ 52 ∷ 10 ∷ [])
+    ++ (48 ∷ 32 ∷ 56 ∷ 10 ∷ [])
+    ++ (48 ∷ 32 ∷ 50 ∷ 56 ∷ 10 ∷ [])
+    ++ (45 ∷ 53 ∷ 48 ∷ 32 ∷ 48 ∷ 10 ∷ [])
+    ++ (48 ∷ 32 ∷ 48 ∷ 10 ∷ [])
+    ++ (49 ∷ 32 ∷ 48 ∷ 10 ∷ [])
+    ++ (48 ∷ 32 ∷ 48 ∷ 10 ∷ [])
+    ++ (119 ∷ 32 ∷ 51 ∷ 32 ∷ 48 ∷ 32 ∷ 56 ∷ 10 ∷ [])
+    ++ (101 ∷ 110 ∷ 100 ∷ 32 ∷ 54 ∷ 32 ∷ 114 ∷ 101 ∷ 99 ∷ 111 ∷ 114 ∷ 100 ∷ 115 ∷ 10 ∷ [])
+
+-- a tick that ends a wait and lets another be served, then a cancel of a task that does not wait
+abbrev ticks : List ℕ
+ticks = 0x40 ∷ 0x01 ∷ 0x01 ∷ 0x0A ∷ 0x00 ∷ 0x01 ∷ 0x02 ∷ 0x14 ∷ 0x00 ∷ 0x01 ∷ 0x03 ∷ 0x0C ∷ 0x02 ∷ 0x01 ∷ 0x04 ∷ 0x04 ∷ 0x00 ∷ 0x05 ∷ 0x04 ∷ 0x03 ∷ []
+
+abbrev ticks-text : List ℕ
+ticks-text =
+    (112 ∷ 111 ∷ 111 ∷ 108 ∷ 32 ∷ 54 ∷ 52 ∷ 10 ∷ [])
+    ++ (48 ∷ 32 ∷ 56 ∷ 10 ∷ [])
+    ++ (48 ∷ 32 ∷ 50 ∷ 56 ∷ 10 ∷ [])
+    ++ (49 ∷ 32 ∷ 48 ∷ 10 ∷ [])
+    ++ (49 ∷ 32 ∷ 48 ∷ 10 ∷ [])
+    ++ (48 ∷ 32 ∷ 48 ∷ 10 ∷ [])
+    ++ (119 ∷ 32 ∷ 51 ∷ 32 ∷ 45 ∷ 53 ∷ 48 ∷ 32 ∷ 48 ∷ 10 ∷ [])
+    ++ (119 ∷ 32 ∷ 52 ∷ 32 ∷ 48 ∷ 32 ∷ 53 ∷ 54 ∷ 10 ∷ [])
+    ++ (45 ∷ 52 ∷ 49 ∷ 32 ∷ 48 ∷ 10 ∷ [])
+    ++ (101 ∷ 110 ∷ 100 ∷ 32 ∷ 54 ∷ 32 ∷ 114 ∷ 101 ∷ 99 ∷ 111 ∷ 114 ∷ 100 ∷ 115 ∷ 10 ∷ [])
+
+-- a kind that is none, after a tick
+abbrev bad : List ℕ
+bad = 0x0C ∷ 0x05 ∷ 0x06 ∷ 0x05 ∷ []
+
+abbrev bad-text : List ℕ
+bad-text =
+    (112 ∷ 111 ∷ 111 ∷ 108 ∷ 32 ∷ 49 ∷ 50 ∷ 10 ∷ [])
+    ++ (48 ∷ 32 ∷ 48 ∷ 10 ∷ [])
+    ++ (98 ∷ 97 ∷ 100 ∷ 32 ∷ 108 ∷ 111 ∷ 103 ∷ 32 ∷ 97 ∷ 116 ∷ 32 ∷ 50 ∷ 10 ∷ [])
+
+-- a length and no record
+abbrev no-record : List ℕ
+no-record = 0x0C ∷ []
+
+abbrev no-record-text : List ℕ
+no-record-text =
+    (112 ∷ 111 ∷ 111 ∷ 108 ∷ 32 ∷ 49 ∷ 50 ∷ 10 ∷ [])
+    ++ (101 ∷ 110 ∷ 100 ∷ 32 ∷ 48 ∷ 32 ∷ 114 ∷ 101 ∷ 99 ∷ 111 ∷ 114 ∷ 100 ∷ 115 ∷ 10 ∷ [])
+
+computed : (transcriptOf log ≡ log-text) × (transcriptOf ticks ≡ ticks-text) × (transcriptOf bad ≡ bad-text) × (transcriptOf no-record ≡ no-record-text)
+unfolding total tiled fits firstFit carve granted liveAt join freed sumFree greatestFree blocksFrom le32 header overlay written mask render erase waits remove headTask insert blocked leads expired remaining queued base leave serve headStuck sound tests act pad used allUnused tidy view soundBy performBy create decode readFields limitOf recordOf digits wokenText answerText recordsText poolText transcriptOf
+computed = (refl, refl, refl, refl)
+
+-- an empty log
+empty : transcriptOf [] ≡ 98 ∷ 97 ∷ 100 ∷ 32 ∷ 108 ∷ 111 ∷ 103 ∷ 32 ∷ 97 ∷ 116 ∷ 32 ∷ 48 ∷ 10 ∷ []
+unfolding decode digits poolText transcriptOf
+empty = refl
+
+-- a length that is not in its shortest form
+not-shortest : transcriptOf (0x80 ∷ 0x00 ∷ 0x05 ∷ []) ≡ 98 ∷ 97 ∷ 100 ∷ 32 ∷ 108 ∷ 111 ∷ 103 ∷ 32 ∷ 97 ∷ 116 ∷ 32 ∷ 48 ∷ 10 ∷ []
+unfolding decode digits poolText transcriptOf
+not-shortest = refl
+
+-- lengths that are not allowed: 14 and 2^32 - 1
+refused : transcriptOf (0x0E ∷ 0x05 ∷ []) ≡ 112 ∷ 111 ∷ 111 ∷ 108 ∷ 32 ∷ 114 ∷ 101 ∷ 102 ∷ 117 ∷ 115 ∷ 101 ∷ 100 ∷ 32 ∷ 45 ∷ 49 ∷ 55 ∷ 10 ∷ []
+unfolding base decode poolText transcriptOf
+refused = refl
+
+refused-greatest : transcriptOf (0xFF ∷ 0xFF ∷ 0xFF ∷ 0xFF ∷ 0x0F ∷ 0x05 ∷ []) ≡ 112 ∷ 111 ∷ 111 ∷ 108 ∷ 32 ∷ 114 ∷ 101 ∷ 102 ∷ 117 ∷ 115 ∷ 101 ∷ 100 ∷ 32 ∷ 45 ∷ 49 ∷ 55 ∷ 10 ∷ []
+unfolding base decode poolText transcriptOf
+refused-greatest = refl

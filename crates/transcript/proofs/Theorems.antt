@@ -1,0 +1,204 @@
+-- The theorems of decimal text, of the lines, and of the text of a log. Assumes nothing.
+use Prim.Native.Nat.{ℕ, zero, suc, _+_, _-_, _<_, _≤_, _%_, _/_}
+use mathlib.Core.Path.{_≡_, refl, sym, ap, _∙_}
+use mathlib.Core.Bool.{true, false, cond}
+use mathlib.Core.List.{List, [], _∷_, _++_, append-assoc}
+use native.Mathlib.Nat.{add-zero, zero-add}
+use native.Mathlib.Omega.{arith}
+use lib.IntN.{ℤ, pos, negsuc}
+use lib.ListN.{length, drop, getD, length-append, length-replicate}
+use lib.Seq.{drop-append-seam}
+use mir.Syntax.{w32}
+use mir.Val.{SFits}
+use borrow.Author.Tests.{le-leb, lt-leb}
+use Rattle.model.specs.Limits.{e-ok, e-par}
+use Rattle.model.specs.Rules.{base}
+use Rattle.model.specs.Runs.{run}
+use Rattle.model.specs.Pool.{Stored, perform, create}
+use Rattle.model.proofs.Tests.{by}
+use Rattle.numbers.specs.declared.Number.the-variants.{Value, Refused}
+use Rattle.numbers.specs.Number.{numberOf, numberBound, encode}
+use Rattle.numbers.proofs.Theorems.{number-encode}
+use Rattle.log.specs.declared.Record.{Record}
+use Rattle.log.specs.declared.Read.the-variants.{Taken, End, Bad}
+use Rattle.log.specs.Record.{recordOf, encodeRecord}
+use Rattle.log.proofs.Theorems.{record-encode, record-length}
+use Rattle.transcript.specs.Text.{digit, digits, decimal, signed, valueFrom, valueOf, allDigits}
+use Rattle.transcript.specs.Lines.{poolLine, answerLine, wokenLine, endLine, badLine, refusedLine, tooLongLine, longestAnswer, longestLine, isLine}
+use Rattle.transcript.specs.Transcript.{longestLog, callOf, answerText, recordsText, freshPool, poolText, transcriptOf, encodeRecords, logOf, callsOf, AllExpressible, turnsText}
+use Rattle.transcript.proofs.Decimal.{decimal-ind, decimal-digits, length-word, length-half, value-append}
+use Rattle.transcript.proofs.Sign.{signed-length}
+use Rattle.transcript.proofs.Lines.{line-decimal, line-signed}
+
+-- ---- decimal text
+
+-- it is never empty
+pub decimal-some : (n : ℕ) → 1 ≤ length (decimal n)
+decimal-some = decimal-ind (λ n s. 1 ≤ length s) (λ n h. omega arith) (λ n s h ih. simp length-append (omega arith))
+
+-- no leading zero, but for 0 itself
+pub decimal-first : (n : ℕ) → 0 < n → digit 0 < getD (decimal n) 0 0
+decimal-first = decimal-ind (λ n s. 0 < n → digit 0 < getD s 0 0) (λ n h l. omega arith) next
+  where
+    next : (n : ℕ) (s : List ℕ) → 10 ≤ n → (0 < n / 10 → digit 0 < getD s 0 0) → 0 < n → digit 0 < getD (s ++ (digit (n % 10) ∷ [])) 0 0
+    next n [] h ih l = absurd (omega (arith, ih (omega arith)))
+    next n (b ∷ s) h ih l = ih (omega arith)
+
+-- it reads back to the number
+pub value-decimal : (n : ℕ) → valueOf (decimal n) ≡ n
+unfolding valueFrom
+value-decimal = decimal-ind (λ n s. valueOf s ≡ n) (λ n h. omega arith) (λ n s h ih. value-append 0 s (n % 10) ∙ omega arith)
+
+pub decimal-injective : (m n : ℕ) → decimal m ≡ decimal n → m ≡ n
+decimal-injective m n e = sym (value-decimal m) ∙ ap valueOf e ∙ value-decimal n
+
+minus-decimal : {A : Type 0} (m n : ℕ) → 45 ∷ decimal m ≡ decimal n → A
+unfolding allDigits
+minus-decimal m n e = let z : false ≡ true = ap allDigits e ∙ decimal-digits n in let o : _≡_ {A = ℕ} 0 1 = cc in absurd (omega arith)
+
+pub signed-injective : (y z : ℤ) → signed y ≡ signed z → y ≡ z
+signed-injective (pos m) (pos n) e = ap pos (decimal-injective m n e)
+signed-injective (pos m) (negsuc n) e = minus-decimal (suc n) m (sym e)
+signed-injective (negsuc m) (pos n) e = minus-decimal (suc m) n e
+signed-injective (negsuc m) (negsuc n) e =
+    let same : decimal (suc m) ≡ decimal (suc n) = cc in ap negsuc (omega (arith, decimal-injective (suc m) (suc n) same))
+
+-- ---- lines: one newline, at the end
+
+pub line-pool : (n : ℕ) → isLine (poolLine n) ≡ true
+unfolding isLine
+line-pool n = line-decimal n (10 ∷ [])
+
+pub line-answer : (code : ℤ) (offset : ℕ) → isLine (answerLine code offset) ≡ true
+unfolding isLine
+line-answer code offset = line-signed code (32 ∷ (decimal offset ++ (10 ∷ []))) ∙ line-decimal offset (10 ∷ [])
+
+pub line-woken : (task : ℕ) (code : ℤ) (offset : ℕ) → isLine (wokenLine task code offset) ≡ true
+unfolding isLine
+line-woken task code offset =
+    rw (append-assoc (decimal task) (32 ∷ []) (answerLine code offset)) (line-decimal task (32 ∷ answerLine code offset) ∙ line-answer code offset)
+
+pub line-end : (count : ℕ) → isLine (endLine count) ≡ true
+unfolding isLine
+line-end count = line-decimal count _
+
+pub line-bad : (place : ℕ) → isLine (badLine place) ≡ true
+unfolding isLine
+line-bad place = line-decimal place (10 ∷ [])
+
+pub line-refused : isLine refusedLine ≡ true
+unfolding isLine
+line-refused = refl
+
+pub line-too-long : isLine tooLongLine ≡ true
+unfolding isLine
+line-too-long = refl
+
+-- ---- lines: the code of a pool that is refused
+
+pub refused-code : refusedLine ≡ 112 ∷ 111 ∷ 111 ∷ 108 ∷ 32 ∷ 114 ∷ 101 ∷ 102 ∷ 117 ∷ 115 ∷ 101 ∷ 100 ∷ 32 ∷ (signed e-par ++ (10 ∷ []))
+unfolding digits
+refused-code = refl
+
+-- ---- lines: the most bytes, of numbers that a usize, an i32 and a u32 can hold
+
+module _ (n : ℕ) (h : n < 18446744073709551616) where
+  pub length-pool : length (poolLine n) ≤ longestLine
+  length-pool = simp length-append (omega (arith, length-word n h))
+
+  pub length-end : length (endLine n) ≤ longestLine
+  length-end = simp length-append (omega (arith, length-word n h))
+
+  pub length-bad : length (badLine n) ≤ longestLine
+  length-bad = simp length-append (omega (arith, length-word n h))
+
+  module _ (code : ℤ) (f : SFits w32 code) where
+    pub length-answer : length (answerLine code n) ≤ longestAnswer
+    length-answer = simp length-append (omega (arith, length-word n h, signed-length code f))
+
+    pub length-woken : (task : ℕ) → task < 4294967296 → length (wokenLine task code n) ≤ longestLine
+    length-woken task g = simp length-append (omega (arith, length-word n h, signed-length code f, length-half task g))
+
+-- ---- the records of a log
+
+-- passing over bytes is going on behind them
+pub records-skip : (n at count : ℕ) (p : Stored) (s : List ℕ) → recordsText n at count p s ≡ recordsText 0 (at + n) count p (drop n s)
+unfolding recordsText
+records-skip zero at count p s = rw (add-zero at)
+records-skip (suc n) at count p [] = refl
+records-skip (suc n) at count p (b ∷ s) =
+    let e : at + 1 + n ≡ at + suc n = omega arith in records-skip n (at + 1) count p s ∙ rw e
+
+module _ (at count : ℕ) (p : Stored) where
+  pub records-end : (s : List ℕ) → recordOf s ≡ End → recordsText 0 at count p s ≡ endLine count
+  unfolding recordsText
+  records-end [] e = refl
+  records-end (b ∷ s) e = rw (e, recordsText)
+
+  pub records-bad : (s : List ℕ) → recordOf s ≡ Bad → recordsText 0 at count p s ≡ badLine at
+  unfolding recordsText recordOf
+  records-bad [] e = let z : _≡_ {A = ℕ} 0 1 = cc in absurd (omega arith)
+  records-bad (b ∷ s) e = rw (e, recordsText)
+
+  pub records-taken : (s : List ℕ) (r : Record) (n : ℕ) → recordOf s ≡ Taken r n
+      → recordsText 0 at count p s
+      ≡ answerText (perform base (callOf r) p .said) ++ recordsText 0 (at + n) (count + 1) (perform base (callOf r) p .state) (drop n s)
+  unfolding recordsText
+  records-taken [] r n e = absurd (omega (arith, record-length [] r n e))
+  records-taken (b ∷ s) r zero e = absurd (omega (arith, record-length (b ∷ s) r 0 e))
+  records-taken (b ∷ s) r (suc n) e =
+      let m : suc n - 1 ≡ n = omega arith in
+      let q : at + 1 + (suc n - 1) ≡ at + suc n = omega arith in
+      rw (e, recordsText, records-skip (suc n - 1) (at + 1) (count + 1) (perform base (callOf r) p .state) s, q, m)
+
+-- records that were written: the text of the run of their calls
+pub records-run : (rs : List Record) (at count : ℕ) (p : Stored) → AllExpressible rs
+    → recordsText 0 at count p (encodeRecords rs) ≡ turnsText (run (perform base) p (callsOf rs)) ++ endLine (count + length rs)
+unfolding recordsText encodeRecords turnsText run callsOf AllExpressible
+records-run [] at count p h = rw (add-zero count)
+records-run (r ∷ rs) at count p h =
+    let q : count + 1 + length rs ≡ count + suc (length rs) = omega arith in
+    rw (
+      records-taken at count p (encodeRecord r ++ encodeRecords rs) r (length (encodeRecord r)) (record-encode r (encodeRecords rs) (h .0)),
+      drop-append-seam (encodeRecord r) (encodeRecords rs),
+      records-run rs (at + length (encodeRecord r)) (count + 1) (perform base (callOf r) p .state) (h .1),
+      q,
+      append-assoc,
+    )
+
+-- ---- the text of a log
+
+-- create refuses a pool of zeros exactly where its length is not valid
+pub freshPool-code : (n : ℕ) → freshPool n .said .code ≡ cond (base n .valid) e-ok e-par
+unfolding create
+freshPool-code n = by (base n .valid) (λ v. rw (length-replicate, v)) (λ v. rw (length-replicate, v))
+
+module _ (log : List ℕ) where
+  pub transcript-too-long : longestLog < length log → transcriptOf log ≡ tooLongLine
+  unfolding transcriptOf
+  transcript-too-long h = rw (lt-leb (length log) longestLog h, transcriptOf)
+
+  module _ (fits : length log ≤ longestLog) where
+    text : transcriptOf log ≡ poolText (numberOf log) log
+    unfolding transcriptOf
+    text = rw (le-leb (length log) longestLog fits, transcriptOf)
+
+    pub transcript-bad : numberOf log ≡ Refused → transcriptOf log ≡ badLine 0
+    unfolding poolText
+    transcript-bad e = text ∙ rw e
+
+    module _ (n size : ℕ) (e : numberOf log ≡ Value n size) where
+      pub transcript-refused : base n .valid ≡ false → transcriptOf log ≡ refusedLine
+      unfolding poolText
+      transcript-refused v = text ∙ rw (e, v, poolText)
+
+      pub transcript-pool : base n .valid ≡ true → transcriptOf log ≡ poolLine n ++ recordsText 0 size 0 (freshPool n .state) (drop size log)
+      unfolding poolText
+      transcript-pool v = text ∙ rw (e, v, poolText, records-skip size 0 0 (freshPool n .state) log, zero-add size)
+
+-- a log that was written: the text of the run of its calls
+pub transcript-run : (n : ℕ) (rs : List Record) → length (logOf n rs) ≤ longestLog → n < numberBound → base n .valid ≡ true → AllExpressible rs
+    → transcriptOf (logOf n rs) ≡ poolLine n ++ (turnsText (run (perform base) (freshPool n .state) (callsOf rs)) ++ endLine (length rs))
+transcript-run n rs fits small v h =
+    transcript-pool (logOf n rs) fits n (length (encode n)) (number-encode n (encodeRecords rs) small) v
+    ∙ rw (drop-append-seam (encode n) (encodeRecords rs), records-run rs (length (encode n)) 0 (freshPool n .state) h, zero-add (length rs))

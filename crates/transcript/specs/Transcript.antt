@@ -1,0 +1,94 @@
+-- The whole text of a log: what a program writes that makes the calls of the log on a pool of zeros.
+use Prim.Native.Nat.{ℕ, zero, suc, _+_, _-_}
+use mathlib.Core.List.{List, [], _∷_, _++_}
+use mathlib.Core.Bool.{true, false}
+use lib.Dec.{leb}
+use lib.ListN.{length, replicate}
+use Rattle.model.specs.declared.Woken.{Woken}
+use Rattle.model.specs.Rules.{base}
+use Rattle.model.specs.Calls.{Call, get, poll, release, cancel, tick, Said, Reply}
+use Rattle.model.specs.Runs.{Turn}
+use Rattle.model.specs.Pool.{Stored, perform, create}
+use Rattle.numbers.specs.declared.Number.{Number}
+use Rattle.numbers.specs.declared.Number.the-variants.{Value, Refused}
+use Rattle.numbers.specs.Number.{numberOf, encode}
+use Rattle.log.specs.declared.Record.{Record}
+use Rattle.log.specs.declared.Record.the-variants.{Get, Poll, Release, Cancel, Tick}
+use Rattle.log.specs.declared.Read.the-variants.{Taken, End, Bad}
+use Rattle.log.specs.Record.{recordOf, encodeRecord, Expressible}
+use Rattle.transcript.specs.Lines.{poolLine, answerLine, wokenLine, endLine, badLine, refusedLine, tooLongLine}
+
+-- the most bytes of a log
+abbrev pub longestLog : ℕ
+longestLog = 65536
+
+-- the call that a record stands for
+abbrev pub callOf : Record → Call
+callOf (Get task size limit) = get (record { task = task; size = size; limit = limit })
+callOf (Poll task size) = poll task size
+callOf (Release offset) = release (record { 0 = offset })
+callOf (Cancel task) = cancel task
+callOf Tick = tick
+
+-- a line for each woken task
+unfoldable pub wokenText : List Woken → List ℕ
+wokenText [] = []
+wokenText (w ∷ ws) = wokenLine (w .task) (w .code) (w .offset .0) ++ wokenText ws
+
+-- the line of an answer, and under it those of the woken tasks
+unfoldable pub answerText : Said → List ℕ
+answerText a = answerLine (a .code) (a .offset .0) ++ wokenText (a .woken)
+
+-- The text of the rest of a log, from the place `at` on: its first `skip` bytes are passed over, `count` records were taken before, and p is the pool.
+unfoldable pub recordsText : (skip at count : ℕ) → Stored → List ℕ → List ℕ
+recordsText skip at count p [] = endLine count
+recordsText (suc n) at count p (b ∷ s) = recordsText n (at + 1) count p s
+recordsText zero at count p (b ∷ s) =
+    elim (recordOf (b ∷ s)) [
+      | Taken r n ↦
+          answerText (perform base (callOf r) p .said)
+          ++ recordsText (n - 1) (at + 1) (count + 1) (perform base (callOf r) p .state) s
+      | End ↦ endLine count
+      | Bad ↦ badLine at
+    ]
+
+-- the pool that is created of n zeros
+abbrev pub freshPool : ℕ → Reply Stored
+freshPool n = create base (replicate n 0)
+
+-- the text after the pool's length has been read. Create refuses where that length is not valid.
+unfoldable pub poolText : Number → List ℕ → List ℕ
+poolText Refused log = badLine 0
+poolText (Value n size) log =
+    elim (base n .valid) [
+      | true ↦ poolLine n ++ recordsText size 0 0 (freshPool n .state) log
+      | false ↦ refusedLine
+    ]
+
+-- the text that is written for a log
+unfoldable pub transcriptOf : List ℕ → List ℕ
+transcriptOf log = elim (leb (length log) longestLog) [ true ↦ poolText (numberOf log) log | false ↦ tooLongLine ]
+
+-- ---- logs that were written
+
+-- records in bytes, and a log of a pool's length and records
+unfoldable pub encodeRecords : List Record → List ℕ
+encodeRecords [] = []
+encodeRecords (r ∷ rs) = encodeRecord r ++ encodeRecords rs
+
+abbrev pub logOf : ℕ → List Record → List ℕ
+logOf n rs = encode n ++ encodeRecords rs
+
+unfoldable pub callsOf : List Record → List Call
+callsOf [] = []
+callsOf (r ∷ rs) = callOf r ∷ callsOf rs
+
+-- what the log can express
+unfoldable pub AllExpressible : List Record → Type 0
+AllExpressible [] = Unit {0}
+AllExpressible (r ∷ rs) = Expressible r × AllExpressible rs
+
+-- the text of a run
+unfoldable pub turnsText : List Turn → List ℕ
+turnsText [] = []
+turnsText (x ∷ xs) = answerText (x .said) ++ turnsText xs
