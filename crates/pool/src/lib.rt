@@ -23,9 +23,9 @@ ghost use Rattle.model.specs.Calls as calls;
 ghost use Rattle.model.specs.Pool.{result, created, called, inquired};
 ghost use Rattle.pool.specs.Steps.{request};
 
-pub mod request;
-pub mod serving;
-pub mod state;
+mod request;
+mod serving;
+mod state;
 
 // One free run of all bytes, and an empty queue.
 pub fn create(pool: &mut [u8]) -> Answer
