@@ -1,0 +1,59 @@
+// The calls of the pool, each written with its numbers and what it answers.
+use crate::show;
+use model::Answer;
+use model::BlockOffset;
+use model::Queue;
+
+fn told(a: Answer) -> Queue {
+    show::text(b":");
+    show::answer(a);
+    a.queue
+}
+
+pub fn create(buffer: &mut [u8]) -> Queue {
+    show::text(b"create");
+    show::number(buffer.len());
+    told(pool::create(buffer))
+}
+
+pub fn get(buffer: &mut [u8], queue: Queue, task: u32, size: u32, limit: i32) -> Queue {
+    show::text(b"get");
+    show::number(task as usize);
+    show::number(size as usize);
+    show::signed(limit);
+    told(pool::get(buffer, queue, task, size, limit))
+}
+
+pub fn poll(buffer: &mut [u8], queue: Queue, task: u32, size: u32) -> Queue {
+    show::text(b"poll");
+    show::number(task as usize);
+    show::number(size as usize);
+    told(pool::poll(buffer, queue, task, size))
+}
+
+pub fn release(buffer: &mut [u8], queue: Queue, offset: usize) -> Queue {
+    show::text(b"release");
+    show::number(offset);
+    told(pool::release(buffer, queue, BlockOffset(offset)))
+}
+
+pub fn cancel(buffer: &mut [u8], queue: Queue, task: u32) -> Queue {
+    show::text(b"cancel");
+    show::number(task as usize);
+    told(pool::cancel(buffer, queue, task))
+}
+
+pub fn tick(buffer: &mut [u8], queue: Queue) -> Queue {
+    show::text(b"tick");
+    told(pool::tick(buffer, queue))
+}
+
+pub fn inquire(buffer: &[u8], queue: Queue) {
+    show::text(b"inquire:");
+    let t = pool::inquire(buffer, queue);
+    show::signed(t.code);
+    show::number(t.sum);
+    show::number(t.greatest);
+    show::number(t.head as usize);
+    show::text(b"\n");
+}

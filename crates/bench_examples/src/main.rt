@@ -1,0 +1,14 @@
+// The bench examples of document 01, run by the proved calls. Each call is written with what it answers; the file `stdout` has what document 01 expects.
+mod blocks;
+mod calls;
+mod examples;
+mod refusals;
+mod serving;
+mod show;
+
+fn main() {
+    examples::run();
+    refusals::run();
+    serving::run();
+    blocks::run();
+}
