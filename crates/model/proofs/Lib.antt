@@ -1,3 +1,4 @@
+pub mod Table
 pub mod Tests
 pub mod Blocks
 pub mod Waiting

@@ -3,7 +3,7 @@ use Prim.Native.Nat.{ℕ, _+_, _-_}
 use mathlib.Core.List.{List, [], _∷_, _++_}
 use lib.ListN.{replicate}
 use lib.IntN.{ℤ, pos}
-use Rattle.model.specs.Limits.{forever, minus, e-ok, waiting, e-par, e-rlwai, e-tmout}
+use Rattle.model.specs.Limits.{forever, minus, e-ok, waiting, e-par, e-id, e-ctx, e-obj, e-rlwai, e-tmout}
 use Rattle.model.specs.Blocks.{Block, block}
 use Rattle.model.specs.Waiting.{Entry}
 use Rattle.model.specs.Rules.{base}
@@ -205,5 +205,46 @@ row-split =
 abbrev pub row-whole : Row
 row-whole = record { long = 64; code = e-ok; lines = line (wants 1 45) (told e-ok 8 []) (block 64 1 ∷ []) [] ∷ []; bytes = head 64 1 ++ body 56 }
 
+-- a release joins the free blocks before and behind it; bytes 20 to 27 and 48 to 55 are zero
+abbrev pub row-join : Row
+row-join =
+    record {
+      long = 64;
+      code = e-ok;
+      lines = to-c ++ (line (at 8) (told e-ok 0 []) (block 20 0 ∷ block 28 2 ∷ block 16 0 ∷ []) []
+          ∷ line (at 28) (told e-ok 0 []) (block 64 0 ∷ []) []
+          ∷ []);
+      bytes = head 64 0 ++ body 12 ++ replicate 8 0 ++ body 20 ++ replicate 8 0 ++ body 8;
+    }
+
+-- after e task 5 waits and is cancelled: task 3 still does not fit, and task 4, which would, stays behind it
+abbrev pub row-stuck : Row
+row-stuck =
+    record {
+      long = 64;
+      code = e-ok;
+      lines = to-e ++ (line (wants 5 4) (told waiting 0 []) blocks-c (queue-e ++ (waitsFor 5 4 forever ∷ []))
+          ∷ line (cancel 5) (told e-ok 0 (woke 5 e-rlwai 0 ∷ [])) blocks-c queue-e
+          ∷ []);
+      bytes = bytes-c;
+    }
+
+-- after e: each code, and which of two that both apply is answered
+abbrev pub row-refused : Row
+row-refused =
+    record {
+      long = 64;
+      code = e-ok;
+      lines = to-e ++ (line (wants 33 4) (told e-id 0 []) blocks-c queue-e
+          ∷ line (wants 0 57) (told e-id 0 []) blocks-c queue-e
+          ∷ line (poll 3 0) (told e-par 0 []) blocks-c queue-e
+          ∷ line (poll 3 4) (told e-ctx 0 []) blocks-c queue-e
+          ∷ line (poll 5 4) (told e-tmout 0 []) blocks-c queue-e
+          ∷ line (cancel 33) (told e-id 0 []) blocks-c queue-e
+          ∷ line (cancel 5) (told e-obj 0 []) blocks-c queue-e
+          ∷ []);
+      bytes = bytes-c;
+    }
+
 abbrev pub table : List Row
-table = row-a ∷ row-b ∷ row-c ∷ row-e ∷ row-f ∷ row-g ∷ row-h ∷ row-i ∷ row-j ∷ row-k 64 56 ∷ row-k 12 4 ∷ row-l ∷ row-split ∷ row-whole ∷ []
+table = row-a ∷ row-b ∷ row-c ∷ row-e ∷ row-f ∷ row-g ∷ row-h ∷ row-i ∷ row-j ∷ row-k 64 56 ∷ row-k 12 4 ∷ row-l ∷ row-split ∷ row-whole ∷ row-join ∷ row-stuck ∷ row-refused ∷ []
