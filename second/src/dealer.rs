@@ -62,7 +62,7 @@ impl Dealer {
         self.rng.between(1, MAX_TASK)
     }
 
-    fn waiting_task(&mut self) -> Option<u32> {
+    pub fn waiting_task(&mut self) -> Option<u32> {
         let place = self.rng.index(self.pool.queue().len());
         self.pool
             .queue()

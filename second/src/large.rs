@@ -7,7 +7,7 @@ use crate::rng::Rng;
 use crate::shapes::mixed;
 
 /// The longest record a dealer appends.
-const LONGEST_RECORD: usize = 16;
+pub const LONGEST_RECORD: usize = 16;
 
 /// The order in which a full pool's blocks are released.
 #[derive(Clone, Copy)]

@@ -20,3 +20,5 @@ pub mod replay;
 pub mod rng;
 pub mod runs;
 pub mod shapes;
+pub mod timing;
+pub mod workload;

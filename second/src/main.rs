@@ -10,6 +10,8 @@ use second::coverage::Coverage;
 use second::deal::deal;
 use second::hex::to_hex;
 use second::replay::{replay_text, MAX_LOG};
+use second::timing::best_times;
+use second::workload::{ticks, workload};
 
 const USAGE: &str = "usage:
   second replay < LOG
@@ -17,6 +19,9 @@ const USAGE: &str = "usage:
   second count SEED COUNT
   second compare PROGRAM SEED COUNT [LOG_FILE..]
   second check FOLDER [PROGRAM]
+  second workload full|small|waiters|mixed
+  second workload ticks BLOCKS WAITERS TICKS
+  second time COUNT LOG_FILE \"PROGRAM [ARGUMENT..]\"..
 ";
 
 /// Exit status of wrong arguments and of files or programs that fail.
@@ -52,6 +57,9 @@ fn run(arguments: &[String]) -> io::Result<Option<ExitCode>> {
         }
         ["check", folder] => check(folder, None).map(Some),
         ["check", folder, program] => check(folder, Some(Path::new(program))).map(Some),
+        ["workload", name] => write_log(workload(name)),
+        ["workload", "ticks", numbers @ ..] => write_log(ticks_of(numbers)),
+        ["time", count, log, programs @ ..] => time(count, Path::new(log), programs),
         _ => Ok(None),
     }
 }
@@ -131,4 +139,38 @@ fn check(folder: &str, program: Option<&Path>) -> io::Result<ExitCode> {
     } else {
         ExitCode::FAILURE
     })
+}
+
+/// The log of `workload ticks`; `None` if the numbers are wrong.
+fn ticks_of(numbers: &[&str]) -> Option<Vec<u8>> {
+    let [blocks, waiters, count] = numbers else {
+        return None;
+    };
+    ticks(
+        blocks.parse().ok()?,
+        waiters.parse().ok()?,
+        count.parse().ok()?,
+    )
+}
+
+fn write_log(log: Option<Vec<u8>>) -> io::Result<Option<ExitCode>> {
+    let Some(log) = log else {
+        return Ok(None);
+    };
+    io::stdout().lock().write_all(&log)?;
+    Ok(Some(ExitCode::SUCCESS))
+}
+
+/// Writes a line for each program: its best time in microseconds, and itself.
+fn time(count: &str, log: &Path, programs: &[&str]) -> io::Result<Option<ExitCode>> {
+    let count = count.parse().unwrap_or(0);
+    if count == 0 || programs.is_empty() {
+        return Ok(None);
+    }
+    let times = best_times(count, log, programs)?;
+    let mut out = io::stdout().lock();
+    for (time, program) in times.iter().zip(programs) {
+        writeln!(out, "{} {program}", time.as_micros())?;
+    }
+    Ok(Some(ExitCode::SUCCESS))
 }

@@ -9,6 +9,7 @@ use std::process::{Command, Output};
 use second::deal::deal;
 use second::hex::to_hex;
 use second::replay::replay_text;
+use second::workload::{workload, WORKLOADS};
 
 const SECOND: &str = env!("CARGO_BIN_EXE_second");
 
@@ -118,6 +119,51 @@ fn deal_and_count() {
     assert_eq!(second(&[]).status.code(), Some(2));
 }
 
+fn workloads() {
+    for name in WORKLOADS {
+        let output = second(&["workload", name]);
+        assert_eq!(Some(output.stdout), workload(name));
+        assert_eq!(output.status.code(), Some(0));
+    }
+    assert_eq!(second(&["workload", "none"]).status.code(), Some(2));
+}
+
+/// Starts `second time` in the folder of the scripts.
+fn time(folder: &Path, arguments: &[&str]) -> Output {
+    Command::new(SECOND)
+        .current_dir(folder)
+        .arg("time")
+        .args(arguments)
+        .output()
+        .expect("the program starts")
+}
+
+fn time_programs(folder: &Path) {
+    script(folder, "once", "echo run >> runs\nexec cat");
+    script(folder, "asked", "[ \"$1 $2\" = 'two words' ]");
+    let output = time(folder, &["3", "extra.log", "./once", "./asked two words"]);
+    assert_eq!(output.status.code(), Some(0));
+    let text = stdout(&output);
+    let lines: Vec<_> = text.lines().map(|line| line.split_once(' ')).collect();
+    let [Some((first, "./once")), Some((second, "./asked two words"))] = lines[..] else {
+        panic!("{text}");
+    };
+    assert!(first.parse::<u64>().is_ok() && second.parse::<u64>().is_ok());
+    let runs = fs::read_to_string(folder.join("runs")).expect("runs noted");
+    assert_eq!(runs.lines().count(), 3);
+    for wrong in [
+        &["3", "extra.log", "./asked one"][..],
+        &["3", "extra.log", "./missing"],
+        &["3", "missing.log", "./once"],
+        &["3", "extra.log", " "],
+        &["3", "extra.log"],
+        &["0", "extra.log", "./once"],
+        &["x", "extra.log", "./once"],
+    ] {
+        assert_eq!(time(folder, wrong).status.code(), Some(2), "{wrong:?}");
+    }
+}
+
 #[test]
 fn commands() {
     let folder = fresh_folder("commands");
@@ -126,4 +172,6 @@ fn commands() {
     compare_other_faults(&folder);
     check_stored(&folder);
     deal_and_count();
+    workloads();
+    time_programs(&folder);
 }

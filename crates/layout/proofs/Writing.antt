@@ -6,7 +6,7 @@ use mathlib.Core.Option.{Option, none, some}
 use native.Mathlib.Nat.{zero-add, suc-add}
 use lib.ListN.{length, replicate, set, length-replicate}
 use Rattle.model.specs.Bytes.{overlay, written}
-use Rattle.model.proofs.Masks.{over, overlay-overlay, overlay-length, over-append, over-same, over-written, none-over, written-length}
+use Rattle.model.proofs.Masks.{over, overlay-overlay, over-append, over-same, over-written, none-over, written-length}
 use Rattle.layout.specs.Layout.{put}
 
 -- ---- masks of bytes at a place
@@ -36,10 +36,6 @@ over-put p xs a v r e k =
     ∙ ap (λ (m : List (Option ℕ)). a ++ (m ++ r)) (over-written xs v k)
 
 -- ---- put
-
-pub put-length : (p : ℕ) (xs l : List ℕ) → length (put p xs l) ≡ length l
-unfolding put
-put-length p xs l = overlay-length (replicate p none ++ written xs) l
 
 -- one after the other
 pub put-put : (p q : ℕ) (xs ys l : List ℕ) → q ≡ p + length xs → put q ys (put p xs l) ≡ put p (xs ++ ys) l

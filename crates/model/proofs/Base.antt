@@ -44,7 +44,6 @@ module _ (n : ℕ) where
         tasks-most = omega arith;
         need-mod = λ e h. omega arith;
         need-least = λ e h. omega (arith, open-size (e .size) h .least);
-        need-most = λ v e h. omega (arith, open-long v .by-four, open-long v .least, open-size (e .size) h .least, open-size (e .size) h .most);
         allowed-left = λ l e. refl;
         rank-left = λ l e. refl;
       }

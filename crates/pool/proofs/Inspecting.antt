@@ -66,7 +66,6 @@ pub record State (l : List ℕ) (es : List Entry) : Type 0 where
   pub pool : soundPool l ≡ true
   pub queue : queued (base (length l)) (used es) ≡ true
   pub places : tidy es ≡ true
-  pub stuck-head : stuck l es ≡ true
 
 pub open-state : (l : List ℕ) (es : List Entry) → isSound base (kept l es) ≡ true → State l es
 open-state l es h =
@@ -76,7 +75,7 @@ open-state l es h =
     let c = stuck l es in
     let e = sym (state-parts l es) ∙ h in
     let bc = and-r a (b && c) e in
-    record { pool = and-l a (b && c) e; queue = and-l q (tidy es) (and-l b c bc); places = and-r q (tidy es) (and-l b c bc); stuck-head = and-r b c bc }
+    record { pool = and-l a (b && c) e; queue = and-l q (tidy es) (and-l b c bc); places = and-r q (tidy es) (and-l b c bc) }
 
 -- ---- what is inspected
 

@@ -22,7 +22,7 @@ use Rattle.model.specs.Bytes.{blocksOf}
 use Rattle.model.specs.Waiting.{waits}
 use Rattle.model.specs.Rules.{Rules, okTask, okSize, needOf, base}
 use Rattle.model.specs.Calls.{offsetOf, Request, get, deny, okLimit, isPoll, leftOf, entryOf, State, state, blocks, goes, tests, act}
-use Rattle.model.specs.Places.{noEntry, entriesOf, wokenOf}
+use Rattle.model.specs.Places.{noEntry, entriesOf, tidy, wokenOf}
 use Rattle.model.specs.Pool.{stored, view, performBy, isSound, result, answered, called}
 use Rattle.model.proofs.Tests.{by, and-l, and-f-r, not-f}
 use Rattle.model.proofs.Bytes.{Bytes}
@@ -37,10 +37,10 @@ use Rattle.layout.proofs.Finding.{no-spot, found-run, no-run}
 use Rattle.queue.specs.declared.Slot.{Slot}
 use Rattle.queue.specs.declared.Slot.the-variants as slot
 use Rattle.queue.specs.Entries as Q
-use Rattle.queue.proofs.Entries.{head-blocks, room}
+use Rattle.queue.proofs.Entries.{head-blocks}
 use Rattle.pool.specs.declared.request.Verdict.{Verdict}
 use Rattle.pool.specs.declared.request.Verdict.the-variants.{Refuse, Go}
-use Rattle.pool.specs.Steps.{request, entry, refusal, asked, judged, placed, runFor, held, admitted, Held, Fair}
+use Rattle.pool.specs.Steps.{request, entry, refusal, asked, judged, placed, runFor, held, admitted, Fair}
 use Rattle.pool.proofs.Inspecting.{State as Parts, open-state, called-refused, kept-bytes, kept-queue}
 
 -- ---- the tests but for the last
@@ -66,7 +66,7 @@ module _ (n t s : ℕ) (l : ℤ) (q : List Entry) where
       unfolding base
       slot-judged x p left d e ep el =
           by (waits t q)
-          (λ w. let f : x ≡ slot.At (0 + Q.place t q) = e ∙ rw w in rw (f, a, b, d, w))
+          (λ w. let f : x ≡ slot.At (Q.place t q) = e ∙ rw w in rw (f, a, b, d, w))
           (λ w. let f : x ≡ slot.Nothing = e ∙ rw w in rw (f, a, b, d, w) (λ i. Go (ep i) (el i)))
 
 -- ---- tests of a get
@@ -167,8 +167,8 @@ module _ (l : List ℕ) (q : Queue) (e : Entry) (f : Found) (fair : Fair l q e f
   parts : Parts l (q .entries)
   parts = open-state l (q .entries) (fair .state)
 
-  pub fair-held : Held q
-  fair-held = record { places = parts .places; room = room base-K (base-laws (length l)) e (entriesOf q) (fair .task) (fair .size) (fair .away) (parts .queue) }
+  pub fair-held : tidy (q .entries) ≡ true
+  fair-held = parts .places
 
   -- nobody waits, and the run found
   goes-is : goes base-K (blocks base-K) e (view (stored l q)) ≡ eqb (getD (q .entries) 0 noEntry .task) 0 && fits (needOf (e .size)) (blocksOf l)

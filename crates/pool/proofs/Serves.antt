@@ -87,12 +87,15 @@ loop-starts l es es′ w k most b r h e =
 module _ {x : List ℕ} {n most : ℕ} {w : List Woken} {k : ℕ} {v : Served (List Block)} {l : List ℕ} {es : List Entry} {w′ : List Woken} {k′ : ℕ}
     (s : Loop x n most w k v l es w′ k′) where
   -- nobody is left, or the head does not fit
-  stops : serve (base n) (blocks (base n)) (blocksOf l) es ≡ record { woken = []; state = state (blocksOf l) es } → (r : Answer) → r ≡ answerAs w′ es → result r l ≡ servedAs x w k v
-  stops e r a = (λ i. result (a i) (s .shows i)) ∙ sym (s .same ∙ ap (servedAs x w′ k′) e)
+  abbrev pub Still : Type 0
+  Still = serve (base n) (blocks (base n)) (blocksOf l) es ≡ record { woken = []; state = state (blocksOf l) es }
 
-  pub loop-out : es ≡ [] → (r : Answer) → r ≡ answerAs w′ es → result r l ≡ servedAs x w k v
+  pub loop-answer : Still → (r : Answer) → r ≡ answerAs w′ es → result r l ≡ servedAs x w k v
+  loop-answer e r a = (λ i. result (a i) (s .shows i)) ∙ sym (s .same ∙ ap (servedAs x w′ k′) e)
+
+  pub loop-out : es ≡ [] → Still
   unfolding serve
-  loop-out e r a = stops (rw e) r a
+  loop-out e = rw e
 
   module _ (e : Entry) (rest : List Entry) (q : es ≡ e ∷ rest) (m : ℕ) (em : m ≡ needOf (e .size)) where
     head : Asked (base n) e
@@ -105,16 +108,15 @@ module _ {x : List ℕ} {n most : ℕ} {w : List Woken} {k : ℕ} {v : Served (L
     pub space : k′ < most-tasks
     space = omega (arith, s .room, ap length q)
 
-    -- no run fits
-    pub loop-full : fits m (blocksOf l) ≡ false → (r : Answer) → r ≡ answerAs w′ es → result r l ≡ servedAs x w k v
+    loop-full : fits m (blocksOf l) ≡ false → Still
     unfolding serve base
-    loop-full f r a = stops (rw q (rw (rw em at f))) r a
+    loop-full f = rw q (rw (rw em at f))
 
-    pub loop-long : most < m → (r : Answer) → r ≡ answerAs w′ es → result r l ≡ servedAs x w k v
-    loop-long h r a = loop-full (s .longest m h) r a
+    pub loop-long : most < m → Still
+    loop-long h = loop-full (s .longest m h)
 
-    pub loop-none : firstFitOf m (blocksOf l) ≡ found.Nothing → (r : Answer) → r ≡ answerAs w′ es → result r l ≡ servedAs x w k v
-    loop-none h r a = loop-full (no-run m (blocksOf l) h) r a
+    pub loop-none : firstFitOf m (blocksOf l) ≡ found.Nothing → Still
+    loop-none h = loop-full (no-run m (blocksOf l) h)
 
     module _ (p : Spot) (h : firstFitOf m (blocksOf l) ≡ found.At p) where
       pub grantable : Grantable l (p .place) m

@@ -2,7 +2,7 @@
 use Prim.Native.Nat.{ℕ, _+_, _≤_, _<_}
 use mathlib.Core.Path.{_≡_}
 use mathlib.Core.Bool.{Bool, true, false, not, cond, _&&_}
-use mathlib.Core.List.{List, [], _∷_}
+use mathlib.Core.List.{List, []}
 use mathlib.Core.Option.{Option, none, some}
 use lib.ListN.{length, getD}
 use lib.Seq.{sets}
@@ -85,11 +85,6 @@ admitted p e poll =
     decide p
     (deny (poll && not (goes (rulesOf base p) (blocks (rulesOf base p)) e (view p))) e-tmout none)
     (settled p (cond (goes (rulesOf base p) (blocks (rulesOf base p)) e (view p)) (grants (rulesOf base p) (blocks (rulesOf base p)) e (view p)) (joins (rulesOf base p) (blocks (rulesOf base p)) e (view p))))
-
--- a queue with room for one more
-pub record Held (q : Queue) : Type 0 where
-  pub places : tidy (q .entries) ≡ true
-  pub room : length (used (q .entries)) < most-tasks
 
 -- a sound state, an entry that may be asked for, and what the survey found for its need
 pub record Fair (l : List ℕ) (q : Queue) (e : Entry) (f : Found) : Type 0 where

@@ -18,7 +18,6 @@ use model::Woken;
 use queue::Slot;
 use request::Verdict;
 ghost use mathlib.Core.Path.{_≡_};
-ghost use Rattle.model.specs.Calls.{Call};
 ghost use Rattle.model.specs.Calls as calls;
 ghost use Rattle.model.specs.Pool.{result, created, called, inquired};
 ghost use Rattle.pool.specs.Steps.{request};

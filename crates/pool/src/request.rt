@@ -16,10 +16,11 @@ use model::WAITING;
 use queue::Limit;
 use queue::Slot;
 ghost use mathlib.Core.Path.{_≡_};
+ghost use mathlib.Core.Bool.{true};
 ghost use Rattle.model.specs.Rules.{base};
-ghost use Rattle.model.specs.Places.{used};
+ghost use Rattle.model.specs.Places.{used, tidy};
 ghost use Rattle.model.specs.Pool.{result, answered, stored};
-ghost use Rattle.pool.specs.Steps.{request, entry, asked, judged, placed, runFor, held, admitted, Fair, Held};
+ghost use Rattle.pool.specs.Steps.{request, entry, asked, judged, placed, runFor, held, admitted, Fair};
 
 // What a request meets: a code, or whether it polls and how long it may wait.
 pub enum Verdict {
@@ -70,7 +71,7 @@ fn run_for(entries: [Entry; TASKS], found: Found) -> Found
 
 // A request that cannot be granted at once: a poll is refused, any other joins the queue.
 fn hold(queue: Queue, e: Entry, poll: bool) -> Answer
-    requires { ⌜ Held queue ⌝ }
+    requires { ⌜ tidy (queue .entries) ≡ true ⌝ }
     ensures { λ r. ⌜ r ≡ held queue e poll ⌝ }
 {
     if poll {

@@ -11,31 +11,13 @@ use model::Queue;
 use model::TASKS;
 use model::Woken;
 ghost use mathlib.Core.Path.{_≡_};
-ghost use mathlib.Core.Bool.{true};
-ghost use Prim.Native.Nat.{_≤_};
-ghost use lib.ListN.{length, drop};
-ghost use Rattle.model.specs.Limits.{most-tasks};
-ghost use Rattle.model.specs.Places.{used, tidy};
+ghost use lib.ListN.{length};
+ghost use Rattle.model.specs.Places.{used};
 ghost use Rattle.model.specs.Bytes.{blocksOf, erase};
 ghost use Rattle.model.specs.Rules.{base};
 ghost use Rattle.model.specs.Calls as calls;
 ghost use Rattle.model.specs.Pool.{result};
-ghost use Rattle.pool.specs.Steps.{answerAs, servedAs, Ready};
-
-// The answer of a call that serves: the entries from `first` on still wait.
-fn answer(entries: [Entry; TASKS], woken: [Woken; TASKS], first: usize) -> Answer
-    requires { ⌜ (tidy entries ≡ true) × (first ≤ most-tasks) ⌝ }
-    ensures { λ r. ⌜ r ≡ answerAs woken (drop first (used entries)) ⌝ }
-{
-    Answer {
-        code: 0,
-        offset: BlockOffset(0),
-        woken: woken,
-        queue: Queue {
-            entries: queue::rest(entries, first),
-        },
-    }
-}
+ghost use Rattle.pool.specs.Steps.{servedAs, Ready};
 
 // While there is a head and it fits, it is granted and noted as woken, behind the `before` tasks that were noted. No free run has more than `most` bytes.
 pub fn serve(
@@ -53,15 +35,15 @@ pub fn serve(
     while i < TASKS {
         let e = entries[i];
         if e.task == 0 {
-            return answer(entries, noted, i);
+            break;
         }
         let need = state::need(e.size);
         if most < need {
-            return answer(entries, noted, i);
+            break;
         }
         let found = walk::first_fit(pool, need);
         let Found::At(spot) = found else {
-            return answer(entries, noted, i);
+            break;
         };
         let at = spot.place;
         change::grant_at(pool, at, need, e.task as usize);
@@ -72,5 +54,14 @@ pub fn serve(
         };
         i += 1;
     }
-    answer(entries, noted, i)
+    let mut left = entries;
+    if 0 < i {
+        left = queue::rest(entries, i);
+    }
+    Answer {
+        code: 0,
+        offset: BlockOffset(0),
+        woken: noted,
+        queue: Queue { entries: left },
+    }
 }

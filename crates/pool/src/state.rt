@@ -9,7 +9,7 @@ use model::Entry;
 use model::Queue;
 use model::TASKS;
 ghost use mathlib.Core.Path.{_≡_};
-ghost use Prim.Native.Nat.{_≤_, max};
+ghost use Prim.Native.Nat.{max};
 ghost use Rattle.model.specs.Rules.{needOf};
 ghost use Rattle.pool.specs.Steps.{inspected, refusal, blockAt};
 

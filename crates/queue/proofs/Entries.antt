@@ -1,22 +1,23 @@
 -- Laws of the entries: what the tests, the place found and the place of a newcomer say. Assumes nothing.
-use Prim.Native.Nat.{ℕ, suc, _+_, _-_, _≤_, _<_}
+use Prim.Native.Nat.{ℕ, zero, suc, _+_, _-_, _≤_, _<_}
 use mathlib.Core.Path.{_≡_, refl, sym, ap, _∙_}
-use mathlib.Core.Bool.{true, false, not, _&&_}
-use mathlib.Core.List.{List, [], _∷_}
+use mathlib.Core.Bool.{Bool, true, false, not, cond, _&&_, _||_}
+use mathlib.Core.List.{List, [], _∷_, _++_}
 use native.Mathlib.Omega.{arith}
 use native.Mathlib.Nat.{add-zero, zero-add}
 use lib.Dec.{leb, eqb}
-use lib.ListN.{length, drop, getD}
+use lib.ListN.{length, drop, getD, set, replicate}
+use lib.Seq.{getD-set-same, getD-set-other}
 use borrow.Author.Tests.{leb-true, leb-false, eqb-true, eqb-false, le-leb, lt-leb, eq-eqb, ne-eqb}
 use Rattle.model.specs.declared.Entry.{Entry}
-use Rattle.model.specs.Limits.{most-tasks, forever}
-use Rattle.model.specs.Waiting.{waits, remove, headTask, insert, blocked, leads, withLeft}
-use Rattle.model.specs.Rules.{Rules, Laws, okTask, okSize, okEntry, queued, base}
+use Rattle.model.specs.Limits.{most-tasks}
+use Rattle.model.specs.Waiting.{waits, remove, headTask, insert, blocked, leads, okLeft}
+use Rattle.model.specs.Rules.{okTask, okSize, okEntry, queued, base}
 use Rattle.model.specs.Places.{noEntry, used, allUnused, tidy}
-use Rattle.model.proofs.Tests.{by, clash, and-l, and-r, and-i, and-assoc}
-use Rattle.model.proofs.Waiting.{insert-queued, queued-length}
+use Rattle.model.proofs.Tests.{by, clash, and-l, and-r, and-f-r, and-true, and-assoc, and-swap}
+use Rattle.queue.specs.declared.Slot.{Slot}
 use Rattle.queue.specs.declared.Slot.the-variants.{At, Nothing}
-use Rattle.queue.specs.Entries.{soundQueue, place, foundFrom, found, rank, placeFor, put, without}
+use Rattle.queue.specs.Entries.{soundQueue, place, found, rank, without}
 use Rattle.queue.proofs.Places.{used-stop, used-go, tidy-stop, tidy-go, drop-end}
 
 -- ---- a sound queue
@@ -35,39 +36,86 @@ unfolding leads waits
 leads-waits x [] = refl
 leads-waits x (y ∷ q) = by (eqb (y .task) (x .task)) (λ h. rw h) (λ h. rw h (leads-waits x q))
 
+-- the number of a task that may stand in the queue
+pub entry-number : (n : ℕ) (e : Entry) → okEntry (base n) e ≡ true → e .task ≤ most-tasks
+unfolding base
+entry-number n e h = leb-true (e .task) most-tasks (and-r (leb 1 (e .task)) (leb (e .task) most-tasks) (and-l (okTask (base n) (e .task)) (okSize n (e .size) && okLeft (e .left)) h))
+
+-- none of the entries is of a task that is marked
+unfoldable pub unmarked : List Bool → List Entry → Bool
+unmarked seen [] = true
+unmarked seen (e ∷ q) = not (getD seen (e .task) false) && unmarked seen q
+
+getD-none : (m i : ℕ) → getD (replicate m false) i false ≡ false
+getD-none zero i = refl
+getD-none (suc m) zero = refl
+getD-none (suc m) (suc i) = getD-none m i
+
+unmarked-none : (m : ℕ) (q : List Entry) → unmarked (replicate m false) q ≡ true
+unfolding unmarked
+unmarked-none m [] = refl
+unmarked-none m (e ∷ q) = rw (getD-none m (e .task)) (unmarked-none m q)
+
+-- one more mark: nobody of that task follows
+unmarked-set : (seen : List Bool) (t : ℕ) → t < length seen → (q : List Entry) → unmarked (set seen t true) q ≡ not (waits t q) && unmarked seen q
+unfolding unmarked waits
+unmarked-set seen t h [] = refl
+unmarked-set seen t h (e ∷ q) =
+    by (eqb (e .task) t)
+    (λ s. rw (s, eqb-true (e .task) t s, getD-set-same seen t true false h))
+    (λ s. rw (s, getD-set-other seen t (e .task) true false (eqb-false (e .task) t s), unmarked-set seen t h q)
+    (and-swap (not (getD seen (e .task) false)) (not (waits t q)) (unmarked seen q)))
+
+-- what is still to be tested of the places, given the tasks marked and whether the entries have ended
+abbrev pub testFrom : ℕ → List Bool → Bool → List Entry → Bool
+testFrom n seen true l = allUnused l
+testFrom n seen false l = soundQueue n l && unmarked seen (used l)
+
+pub test-starts : (n m : ℕ) (l : List Entry) → soundQueue n l ≡ testFrom n (replicate m false) false l
+test-starts n m l = rw (unmarked-none m (used l)) (sym (and-true (soundQueue n l)))
+
 -- the test at one place more
-module _ (n : ℕ) (l : List Entry) (i : ℕ) where
-  pub sound-stop : getD l i noEntry .task ≡ 0 → soundQueue n (drop i l) ≡ allUnused (drop i l)
-  unfolding queued
-  sound-stop h = rw (used-stop l i h, tidy-stop l i h)
+module _ (n : ℕ) (l : List Entry) (i : ℕ) (seen : List Bool) where
+  abbrev x : Entry
+  x = getD l i noEntry
 
-  module _ (h : getD l i noEntry .task ≡ 0 → ⊥) where
-    abbrev x : Entry
-    x = getD l i noEntry
+  abbrev r : List Entry
+  r = drop (i + 1) l
 
-    abbrev r : List Entry
-    r = drop (i + 1) l
+  pub test-ended : (ended : Bool) → ended || eqb (x .task) 0 ≡ true → testFrom n seen ended (drop i l) ≡ allUnused (drop i l)
+  unfolding queued unmarked
+  test-ended true h = refl
+  test-ended false h = let z = eqb-true (x .task) 0 h in rw (used-stop l i z, tidy-stop l i z) (and-true (allUnused (drop i l)))
 
-    sound-split : soundQueue n (drop i l) ≡ okEntry (base n) x && (not (waits (x .task) (used r)) && soundQueue n r)
-    unfolding queued base
-    sound-split =
-        let free = not (waits (x .task) (used r)) in
-        let q = queued (base n) (used r) in
-        rw (used-go l i h, tidy-go l i h, leads-waits, and-assoc (okEntry (base n) x) (free && q) (tidy r), and-assoc free q (tidy r))
+  sound-split : (x .task ≡ 0 → ⊥) → soundQueue n (drop i l) ≡ okEntry (base n) x && (not (waits (x .task) (used r)) && soundQueue n r)
+  unfolding queued base
+  sound-split h =
+      let free = not (waits (x .task) (used r)) in
+      let q = queued (base n) (used r) in
+      rw (used-go l i h, tidy-go l i h, leads-waits, and-assoc (okEntry (base n) x) (free && q) (tidy r), and-assoc free q (tidy r))
 
-    pub sound-bad : okEntry (base n) x ≡ false → soundQueue n (drop i l) ≡ false
-    sound-bad b = sound-split ∙ rw b
+  pub test-bad : (ended : Bool) → ended || eqb (x .task) 0 ≡ false → okEntry (base n) x ≡ false → testFrom n seen ended (drop i l) ≡ false
+  test-bad true h b = clash true refl h
+  test-bad false h b = rw (sound-split (eqb-false (x .task) 0 h), b)
 
-    module _ (ok : okEntry (base n) x ≡ true) where
-      pub sound-twice : waits (x .task) (used r) ≡ true → soundQueue n (drop i l) ≡ false
-      sound-twice w = sound-split ∙ rw (ok, w)
+  pub test-twice : (ended : Bool) → ended || eqb (x .task) 0 ≡ false → getD seen (x .task) false ≡ true → testFrom n seen ended (drop i l) ≡ false
+  unfolding unmarked
+  test-twice true h m = clash true refl h
+  test-twice false h m = and-f-r (soundQueue n (drop i l)) _ (rw (used-go l i (eqb-false (x .task) 0 h), m))
 
-      pub sound-go : waits (x .task) (used r) ≡ false → soundQueue n (drop i l) ≡ soundQueue n r
-      sound-go w = sound-split ∙ rw (ok, w)
+  pub test-go : (ended : Bool) → ended || eqb (x .task) 0 ≡ false → okEntry (base n) x ≡ true → getD seen (x .task) false ≡ false → x .task < length seen → testFrom n seen ended (drop i l) ≡ testFrom n (set seen (x .task) true) ended r
+  unfolding unmarked
+  test-go true h ok m k = clash true refl h
+  test-go false h ok m k =
+      let u = eqb-false (x .task) 0 h in
+      rw (sound-split u, used-go l i u, ok, m, unmarked-set seen (x .task) k (used r))
+      (and-assoc (not (waits (x .task) (used r))) (soundQueue n r) (unmarked seen (used r))
+      ∙ and-swap (not (waits (x .task) (used r))) (soundQueue n r) (unmarked seen (used r)))
 
-  pub sound-end : length l ≡ most-tasks → most-tasks ≤ i → soundQueue n (drop i l) ≡ true
-  unfolding queued used tidy
-  sound-end e h = rw (drop-end l i e h)
+  pub test-end : (ended : Bool) → length l ≡ most-tasks → most-tasks ≤ i → testFrom n seen ended (drop i l) ≡ true
+  unfolding queued used tidy allUnused unmarked
+  test-end true e h = rw (drop-end l i e h)
+  test-end false e h = rw (drop-end l i e h)
 
 pub record Sound (n : ℕ) (es : List Entry) : Type 0 where
   pub queue : queued (base n) (used es) ≡ true
@@ -77,6 +125,13 @@ pub open-sound : (n : ℕ) (es : List Entry) → soundQueue n es ≡ true → So
 open-sound n es h = record { queue = and-l (queued (base n) (used es)) (tidy es) h; places = and-r (queued (base n) (used es)) (tidy es) h }
 
 -- ---- who waits
+
+-- the place of the task's entry, counted from i
+abbrev pub foundFrom : ℕ → ℕ → List Entry → Slot
+foundFrom i t q = cond (waits t q) (At (i + place t q)) Nothing
+
+pub found-starts : (t : ℕ) (q : List Entry) → found t q ≡ foundFrom 0 t q
+found-starts t q = rw (zero-add (place t q))
 
 module _ (l : List Entry) (i t : ℕ) where
   pub found-stop : used (drop i l) ≡ [] → foundFrom i t (used (drop i l)) ≡ Nothing
@@ -115,58 +170,23 @@ nowhere {ℓ} : {X : Type ℓ} (i : ℕ) → At i ≡ Nothing → X
 nowhere i e = absurd (let z : _≡_ {A = ℕ} 0 1 = cc in omega arith)
 
 module _ (t : ℕ) (q : List Entry) where
-  pub waits-found : waits t q ≡ true → found t q ≡ At (place t q)
-  waits-found w = rw (w, zero-add)
-
-  pub absent-found : waits t q ≡ false → found t q ≡ Nothing
-  absent-found w = rw w
-
-  pub found-nothing : (i : ℕ) → Nothing ≡ foundFrom i t q → waits t q ≡ false
-  found-nothing i e = by (waits t q) (λ w. nowhere (i + place t q) (sym (rw w at e))) (λ w. w)
-
-  pub found-waits : (i j : ℕ) → At j ≡ foundFrom i t q → waits t q ≡ true
-  found-waits i j e = by (waits t q) (λ w. w) (λ w. nowhere j (rw w at e))
+  pub found-nothing : Nothing ≡ found t q → waits t q ≡ false
+  found-nothing e = by (waits t q) (λ w. nowhere (place t q) (sym (rw w at e))) (λ w. w)
 
   pub found-at : (i : ℕ) → At i ≡ found t q → Found t i q
   found-at i e =
-      let w = found-waits 0 i e in
-      let g : At i ≡ At (0 + place t q) = rw w at e in
-      let k : i ≡ place t q = cc (zero-add (place t q)) in
+      let w : waits t q ≡ true = by (waits t q) (λ w. w) (λ w. nowhere i (rw w at e)) in
+      let g : At i ≡ At (place t q) = rw w at e in
+      let k : i ≡ place t q = cc in
       record { waiting = w; within = rw k (place-length t q w); removed = rw k (without-place t q) }
 
 -- ---- who joins
 
-module _ (r : Entry → ℕ) (e : Entry) where
-  pub insert-place : (q : List Entry) → insert r e q ≡ put (placeFor r e q) e q
-  unfolding insert placeFor
-  insert-place [] = refl
-  insert-place (x ∷ q) = by (leb (r x) (r e)) (λ h. rw h (ap (λ (k : List Entry). x ∷ k) (insert-place q))) (λ h. rw h)
-
-  pub place-for-length : (q : List Entry) → placeFor r e q ≤ length q
-  unfolding placeFor
-  place-for-length [] = omega arith
-  place-for-length (x ∷ q) = let ih = place-for-length q in by (leb (r x) (r e)) (λ h. rw h (omega (arith, ih))) (λ h. rw h (omega arith))
-
-  pub insert-length : (q : List Entry) → length (insert r e q) ≡ suc (length q)
-  unfolding insert
-  insert-length [] = refl
-  insert-length (x ∷ q) = by (leb (r x) (r e)) (λ h. rw h (ap suc (insert-length q))) (λ h. rw h)
-
-module _ (l : List Entry) (i : ℕ) (e : Entry) where
-  pub place-for-stop : used (drop i l) ≡ [] → placeFor rank e (used (drop i l)) ≡ 0
-  unfolding placeFor
-  place-for-stop h = rw h
-
-  pub place-for-go : (getD l i noEntry .task ≡ 0 → ⊥) → placeFor rank e (used (drop i l)) ≡ suc (placeFor rank e (used (drop (i + 1) l)))
-  unfolding placeFor
-  place-for-go u = rw (used-go l i u)
-
--- a task that may ask and does not wait finds room
-pub room : (K : Rules) → Laws K → (e : Entry) (q : List Entry) → okTask K (e .task) ≡ true → K .allowed e ≡ true → waits (e .task) q ≡ false → queued K q ≡ true → length q < most-tasks
-room K L e q t a w h =
-    let x = withLeft forever e in
-    let ok : okEntry K x ≡ true = and-i (okTask K (e .task)) _ t (and-i (K .allowed x) _ (L .allowed-left forever e ∙ a) refl) in
-    omega (arith, queued-length K (insert (K .rank) x q) (insert-queued K x q ok w h), insert-length (K .rank) x q, L .tasks-most)
+-- a newcomer stands behind all others
+pub insert-last : (e : Entry) (q : List Entry) → insert rank e q ≡ q ++ e ∷ []
+unfolding insert
+insert-last e [] = refl
+insert-last e (x ∷ q) = ap (λ (k : List Entry). x ∷ k) (insert-last e q)
 
 -- ---- the head
 
@@ -184,7 +204,3 @@ module _ (es : List Entry) where
       by (eqb (getD es 0 noEntry .task) 0)
       (λ h. rw (h, used-stop es 0 (eqb-true (getD es 0 noEntry .task) 0 h)))
       (λ h. rw (h, used-go es 0 (eqb-false (getD es 0 noEntry .task) 0 h)) (le-leb 0 r (omega arith)))
-
-pub base-rank : (n : ℕ) → base n .rank ≡ rank
-unfolding base
-base-rank n = refl

@@ -12,7 +12,7 @@ use borrow.Author.Tests.{eq-eqb, ne-eqb}
 use Rattle.model.specs.declared.Entry.{Entry}
 use Rattle.model.specs.Limits.{most-tasks}
 use Rattle.model.specs.Places.{noEntry, pad, used, isUnused, allUnused, tidy}
-use Rattle.queue.specs.Entries.{put, without}
+use Rattle.queue.specs.Entries.{without}
 use Rattle.model.proofs.Tests.{by}
 use Rattle.model.proofs.Places.{tidy-is}
 
@@ -103,14 +103,15 @@ used-parts (suc i) (e ∷ r) h =
     rw z (ap (λ (k : List Entry). e ∷ k) (ih .0), ih .1))
 
 module _ (i : ℕ) (l : List Entry) (h : i ≤ length (used l)) where
-  pub insert-places : (e : Entry) → i < length l → take (i + 1) (set l i e) ++ drop i (used l) ≡ put i e (used l)
-  insert-places e g = rw (add-one, take-suc-set l i e g, append-assoc, used-parts i l h .0)
-
   pub remove-places : take i l ++ drop (i + 1) (used l) ≡ without i (used l)
   remove-places = rw (add-one, used-parts i l h .0)
 
   pub used-drop : drop i (used l) ≡ used (drop i l)
   used-drop = used-parts i l h .1
+
+-- an entry behind the last; where no place is left, the places stay
+pub join-places : (l : List Entry) (e : Entry) → tidy l ≡ true → length l ≡ most-tasks → set l (length (used l)) e ≡ pad noEntry most-tasks (used l ++ e ∷ [])
+join-places l e t n = let w : l ≡ pad noEntry most-tasks (used l) = rw (← n) (tidy-is l t) in ap (λ (k : List Entry). set k (length (used l)) e) w ∙ sets-behind noEntry most-tasks (used l) (e ∷ [])
 
 -- ---- one place more
 

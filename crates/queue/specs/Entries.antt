@@ -1,8 +1,8 @@
 -- What the functions of the queue answer, over its entries.
-use Prim.Native.Nat.{ℕ, suc, _+_}
+use Prim.Native.Nat.{ℕ, suc}
 use mathlib.Core.Bool.{Bool, cond, _&&_}
 use mathlib.Core.List.{List, [], _∷_, _++_}
-use lib.Dec.{leb, eqb}
+use lib.Dec.{eqb}
 use lib.IntN.{ℤ}
 use lib.ListN.{length, take, drop}
 use Rattle.queue.specs.declared.Slot.{Slot}
@@ -28,28 +28,15 @@ unfoldable pub place : ℕ → List Entry → ℕ
 place t [] = 0
 place t (e ∷ q) = cond (eqb (e .task) t) 0 (suc (place t q))
 
--- the place of the task's entry, if it waits, counted from i
-abbrev pub foundFrom : ℕ → ℕ → List Entry → Slot
-foundFrom i t q = cond (waits t q) (At (i + place t q)) Nothing
-
 -- the place of the task's entry, if it waits
 abbrev pub found : ℕ → List Entry → Slot
-found t q = foundFrom 0 t q
+found t q = cond (waits t q) (At (place t q)) Nothing
 
 -- ---- who joins and who leaves
 
 -- who asked first is served first
 abbrev pub rank : Entry → ℕ
 rank e = 0
-
--- the place where a newcomer stands, behind those of lower or equal rank
-unfoldable pub placeFor : (Entry → ℕ) → Entry → List Entry → ℕ
-placeFor r e [] = 0
-placeFor r e (x ∷ q) = cond (leb (r x) (r e)) (suc (placeFor r e q)) 0
-
--- the entries with e at place i, those from there on one place further
-abbrev pub put : ℕ → Entry → List Entry → List Entry
-put i e q = take i q ++ e ∷ drop i q
 
 -- the entries without the one at place i
 abbrev pub without : ℕ → List Entry → List Entry

@@ -2,14 +2,13 @@
 ghost use mathlib.Core.Path.{_≡_};
 ghost use mathlib.Core.Bool.{true};
 ghost use mathlib.Core.List.{[], _++_};
-ghost use Prim.Native.Nat.{ℕ, _-_, _≤_, _<_};
+ghost use Prim.Native.Nat.{ℕ, _+_, _-_, _≤_, _<_};
 ghost use lib.ListN.{length, take, drop};
 ghost use Rattle.model.specs.Limits.{most-tasks};
-ghost use Rattle.model.specs.Waiting as Waiting;
-ghost use Rattle.model.specs.Waiting.{okLeft, aged};
+ghost use Rattle.model.specs.Waiting.{okLeft, aged, insert};
 ghost use Rattle.model.specs.Rules.{okTask, okSize, okEntry, base};
-ghost use Rattle.model.specs.Places.{noEntry, pad, used, isUnused, allUnused, tidy, wokenOf};
-ghost use Rattle.queue.specs.Entries.{soundQueue, found, foundFrom, rank, placeFor, put, without, tickedOf, limitOf};
+ghost use Rattle.model.specs.Places.{noEntry, pad, used, isUnused, tidy, wokenOf};
+ghost use Rattle.queue.specs.Entries.{soundQueue, found, rank, without, tickedOf, limitOf};
 use model::BlockOffset;
 use model::E_TMOUT;
 use model::Entry;
@@ -87,34 +86,32 @@ fn is_unused(e: Entry) -> bool
     (e.task == 0) & ((e.size == 0) & (e.left == 0))
 }
 
-// Whether the places from `first` on are all zeros.
-fn unused_from(entries: [Entry; TASKS], first: usize) -> bool
-    ensures { λ r. ⌜ r ≡ allUnused (drop first entries) ⌝ }
-{
-    for i in first..TASKS {
-        let e = entries[i];
-        if !is_unused(e) {
-            return false;
-        }
-    }
-    true
-}
+// A place for each task's number, and for 0.
+const NUMBERS: usize = TASKS + 1;
 
 // Whether the queue is sound over a pool of `n` bytes.
 pub fn is_sound(entries: [Entry; TASKS], n: usize) -> bool
     ensures { λ r. ⌜ r ≡ soundQueue n entries ⌝ }
 {
+    let mut seen = [false; NUMBERS];
+    let mut ended = false;
     for i in 0..TASKS {
         let e = entries[i];
-        if e.task == 0 {
-            return unused_from(entries, i);
+        if ended | (e.task == 0) {
+            if !is_unused(e) {
+                return false;
+            }
+            ended = true;
+        } else {
+            if !is_entry(n, e) {
+                return false;
+            }
+            let task = e.task as usize;
+            if seen[task] {
+                return false;
+            }
+            seen[task] = true;
         }
-        if !is_entry(n, e) {
-            return false;
-        }
-        let Slot::Nothing = find_from(entries, i + 1, e.task) else {
-            return false;
-        };
     }
     true
 }
@@ -127,11 +124,11 @@ pub enum Slot {
     Nothing,
 }
 
-// The place of the task's entry among those from `first` on.
-fn find_from(entries: [Entry; TASKS], first: usize, task: u32) -> Slot
-    ensures { λ r. ⌜ r ≡ foundFrom first task (used (drop first entries)) ⌝ }
+// The place of the task's entry.
+pub fn find(entries: [Entry; TASKS], task: u32) -> Slot
+    ensures { λ r. ⌜ r ≡ found task (used entries) ⌝ }
 {
-    for i in first..TASKS {
+    for i in 0..TASKS {
         let e = entries[i];
         if e.task == 0 {
             return Slot::Nothing;
@@ -143,65 +140,39 @@ fn find_from(entries: [Entry; TASKS], first: usize, task: u32) -> Slot
     Slot::Nothing
 }
 
-// The place of the task's entry.
-pub fn find(entries: [Entry; TASKS], task: u32) -> Slot
-    ensures { λ r. ⌜ r ≡ found task (used entries) ⌝ }
-{
-    find_from(entries, 0, task)
-}
-
 // ---- who joins and who leaves
 
-// `out`, its places from `place` on taken from those of `entries` from `first` on, then zeros.
-fn copy(out: [Entry; TASKS], place: usize, entries: [Entry; TASKS], first: usize) -> [Entry; TASKS]
-    requires { ⌜ (tidy entries ≡ true) × (first ≤ most-tasks) ⌝ }
-    ensures { λ r. ⌜ r ≡ pad noEntry most-tasks (take place out ++ drop first (used entries)) ⌝ }
-{
-    let mut after = out;
-    let mut k = first;
-    for i in place..TASKS {
-        let mut e = NO_ENTRY;
-        if k < TASKS {
-            e = entries[k];
-        }
-        after[i] = e;
-        k += 1;
-    }
-    after
-}
-
-// The place where a newcomer stands.
-pub fn place_for(entries: [Entry; TASKS], e: Entry) -> usize
-    ensures { λ r. ⌜ r ≡ placeFor rank e (used entries) ⌝ }
-{
-    let mut i: usize = 0;
-    while i < TASKS {
-        let x = entries[i];
-        if x.task == 0 {
-            return i;
-        }
-        i += 1;
-    }
-    i
-}
-
-// The queue with an entry at a place, those from there on one place further.
-pub fn insert(entries: [Entry; TASKS], place: usize, e: Entry) -> [Entry; TASKS]
-    requires { ⌜ (tidy entries ≡ true) × (place ≤ length (used entries)) × (place < most-tasks) ⌝ }
-    ensures { λ r. ⌜ r ≡ pad noEntry most-tasks (put place e (used entries)) ⌝ }
+// The queue with a newcomer, behind all others.
+pub fn join(entries: [Entry; TASKS], e: Entry) -> [Entry; TASKS]
+    requires { ⌜ tidy entries ≡ true ⌝ }
+    ensures { λ r. ⌜ r ≡ pad noEntry most-tasks (insert rank e (used entries)) ⌝ }
 {
     let mut out = entries;
-    out[place] = e;
-    copy(out, place + 1, entries, place)
+    for i in 0..TASKS {
+        let x = out[i];
+        if x.task == 0 {
+            out[i] = e;
+            return out;
+        }
+    }
+    out
 }
 
-// The queue with a newcomer.
-pub fn join(entries: [Entry; TASKS], e: Entry) -> [Entry; TASKS]
-    requires { ⌜ (tidy entries ≡ true) × (length (used entries) < most-tasks) ⌝ }
-    ensures { λ r. ⌜ r ≡ pad noEntry most-tasks (Waiting.insert rank e (used entries)) ⌝ }
+// The queue without `count` places from `place` on, those behind them so many places further up, then zeros.
+fn cut(entries: [Entry; TASKS], place: usize, count: usize) -> [Entry; TASKS]
+    requires { ⌜ (tidy entries ≡ true) × (place + count ≤ most-tasks) ⌝ }
+    ensures { λ r. ⌜ r ≡ pad noEntry most-tasks (take place entries ++ drop (place + count) (used entries)) ⌝ }
 {
-    let place = place_for(entries, e);
-    insert(entries, place, e)
+    let mut out = entries;
+    for i in place..TASKS {
+        let k = i + count;
+        let mut e = NO_ENTRY;
+        if k < TASKS {
+            e = out[k];
+        }
+        out[i] = e;
+    }
+    out
 }
 
 // The queue without the entry at a place.
@@ -209,7 +180,7 @@ pub fn remove(entries: [Entry; TASKS], place: usize) -> [Entry; TASKS]
     requires { ⌜ (tidy entries ≡ true) × (place < length (used entries)) ⌝ }
     ensures { λ r. ⌜ r ≡ pad noEntry most-tasks (without place (used entries)) ⌝ }
 {
-    copy(entries, place, entries, place + 1)
+    cut(entries, place, 1)
 }
 
 // The queue of the entries from a place on.
@@ -217,7 +188,7 @@ pub fn rest(entries: [Entry; TASKS], first: usize) -> [Entry; TASKS]
     requires { ⌜ (tidy entries ≡ true) × (first ≤ most-tasks) ⌝ }
     ensures { λ r. ⌜ r ≡ pad noEntry most-tasks (drop first (used entries)) ⌝ }
 {
-    copy(entries, 0, entries, first)
+    cut(entries, 0, first)
 }
 
 // ---- time

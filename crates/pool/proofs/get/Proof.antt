@@ -12,45 +12,63 @@ use Rattle.model.specs.Places.{entriesOf}
 use Rattle.model.specs.Calls as calls
 use Rattle.layout.specs.declared.Target.the-variants as target
 use Rattle.pool.specs.Steps.{request, asked, judged, inspected}
+use Rattle.model.specs.declared.Queue.{Queue}
+use Rattle.layout.specs.declared.Surveyed.{Surveyed}
+use mathlib.Core.List.{List}
+use Rattle.model.specs.Calls.{Request}
 use Rattle.pool.proofs.Inspecting.{Told, told, unsound, called-unsound}
 use Rattle.pool.proofs.Judging.{get-refused, get-admitted, get-fair}
 use borrow.Author.Needs.{needs}
 use Rattle.pool.proofs.get.Statement.{statement}
 use Rattle.pool.proofs.get.Tie as tie
 
-surveyed : (c : tie.Else1) → let a = c .before .before .before .before .before .before .before .args in Told (target.Run (needOf (a .size))) (a .pool .now) (a .queue .entries) (c .before .before .inspect .result)
-surveyed c =
-    let a = c .before .before .before .before .before .before .before .args in
-    told (target.Run (needOf (a .size))) (a .pool .now) (a .queue .entries) (c .before .before .inspect .result)
-    (c .before .before .inspect .ensures ∙ ap (λ (i : ℕ). inspected (target.Run i) (a .pool .now) (a .queue .entries)) (c .before .before .before .before .before .need .ensures)) (not-false _ (c .if1 .left))
+-- ---- once the state is known to be sound
 
-verdict-is : (c : tie.After-judge) → let a = c .before .before .before .before .before .before .before .before .args in judged (asked (base (length (a .pool .now))) (request (a .task) (a .size) (a .limit)) (entriesOf (a .queue))) (a .limit) ≡ c .judge .result
+abbrev bytes : tie.Else1 → List ℕ
+bytes s = s .before .before .before .before .before .before .before .args .pool .now
+
+abbrev queue : tie.Else1 → Queue
+queue s = s .before .before .before .before .before .before .before .args .queue
+
+abbrev asks : tie.Else1 → Request
+asks s = let a = s .before .before .before .before .before .before .before .args in request (a .task) (a .size) (a .limit)
+
+abbrev seen : tie.Else1 → Surveyed
+seen s = s .before .before .inspect .result
+
+surveyed : (s : tie.Else1) → Told (target.Run (needOf (asks s .size))) (bytes s) (queue s .entries) (seen s)
+surveyed s =
+    told (target.Run (needOf (asks s .size))) (bytes s) (queue s .entries) (seen s)
+    (s .before .before .inspect .ensures ∙ ap (λ (i : ℕ). inspected (target.Run i) (bytes s) (queue s .entries)) (s .before .before .before .before .before .need .ensures)) (not-false _ (s .if1 .left))
+
+verdict-is : (c : tie.After-judge) → let s = c .before in judged (asked (base (length (bytes s))) (asks s) (entriesOf (queue s))) (asks s .limit) ≡ c .judge .result
 verdict-is c =
-    let a = c .before .before .before .before .before .before .before .before .args in
-    sym (c .judge .ensures ∙ ap (λ (z : ℤ). judged (asked (base (length (a .pool .now))) (request (a .task) (a .size) z) (entriesOf (a .queue))) z) (toZ-ofZ w32 (a .limit) (c .before .before .before .before .before .before .before .before .fits .limit)))
+    let s = c .before in
+    sym (c .judge .ensures ∙ ap (λ (z : ℤ). judged (asked (base (length (bytes s))) (request (asks s .task) (asks s .size) z) (entriesOf (queue s))) z) (toZ-ofZ w32 (asks s .limit) (c .before .before .before .before .before .before .before .before .fits .limit)))
 
 returns : tie.Need-returns
 returns c =
-    let a = c .before .before .before .before .before .before .before .before .args in
-    rw (c .refuse .ensures) (called-unsound (calls.get (request (a .task) (a .size) (a .limit))) (a .pool .now) (a .queue) (unsound (target.Run (c .before .before .before .before .before .before .need .result)) (a .pool .now) (a .queue .entries) (c .before .before .before .inspect .result) (c .before .before .before .inspect .ensures) (not-true _ (c .before .if1 .taken))))
+    let i = c .before .before .before in
+    let a = i .before .before .before .before .before .args in
+    rw (c .refuse .ensures) (called-unsound (calls.get (request (a .task) (a .size) (a .limit))) (a .pool .now) (a .queue) (unsound (target.Run (i .before .before .before .need .result)) (a .pool .now) (a .queue .entries) (i .inspect .result) (i .inspect .ensures) (not-true _ (c .before .if1 .taken))))
 
 admit-requires : tie.Need-admit-requires
 admit-requires c κs =
-    let a = c .before .before .before .before .before .before .before .before .before .before .before .before .args in
+    let s = c .before .before .before .before .before in
     let v = c .before .before .verdict2 .given in
-    get-fair (a .pool .now) (a .queue) (a .task) (a .size) (a .limit) (v .0 .0) (v .0 .1 .0) (c .before .before .before .before .before .before .before .inspect .result .found) (surveyed (c .before .before .before .before .before) .state) (verdict-is (c .before .before .before .before) ∙ v .1) (surveyed (c .before .before .before .before .before) .found)
+    get-fair (bytes s) (queue s) (asks s .task) (asks s .size) (asks s .limit) (v .0 .0) (v .0 .1 .0) (seen s .found) (surveyed s .state) (verdict-is (c .before .before .before .before) ∙ v .1) (surveyed s .found)
 
 returns-2 : tie.Need-returns-2
 returns-2 c =
-    let a = c .before .before .before .before .before .before .before .before .before .before .before .before .args in
+    let s = c .before .before .before .before .before in
     let v = c .before .before .verdict .given in
-    rw (c .refuse2 .ensures) (get-refused (a .pool .now) (a .queue) (a .task) (a .size) (a .limit) (v .0 .0) (surveyed (c .before .before .before .before .before) .state) (verdict-is (c .before .before .before .before) ∙ v .1))
+    rw (c .refuse2 .ensures) (get-refused (bytes s) (queue s) (asks s .task) (asks s .size) (asks s .limit) (v .0 .0) (surveyed s .state) (verdict-is (c .before .before .before .before) ∙ v .1))
 
 returns-3 : tie.Need-returns-3
 returns-3 c =
-    let a = c .before .before .before .before .before .before .before .before .before .before .before .before .before .before .before .args in
+    let s = c .before .before .before .before .before .before .before .before in
     let v = c .before .before .before .before .before .verdict2 .given in
-    c .before .before .admit .ensures ∙ get-admitted (a .pool .now) (a .queue) (a .task) (a .size) (a .limit) (v .0 .0) (v .0 .1 .0) (surveyed (c .before .before .before .before .before .before .before .before) .state) (verdict-is (c .before .before .before .before .before .before .before) ∙ v .1)
+    c .before .before .admit .ensures ∙ get-admitted (bytes s) (queue s) (asks s .task) (asks s .size) (asks s .limit) (v .0 .0) (v .0 .1 .0) (surveyed s .state) (verdict-is (c .before .before .before .before .before .before .before) ∙ v .1)
 
 pub get-spec : {M : Type 1} → statement M
 get-spec =

@@ -1,59 +1,77 @@
--- `queue::is_sound` meets its contract: the entries passed are good and of different tasks. Assumes nothing.
+-- `queue::is_sound` meets its contract: what is tested so far leaves the rest to decide. Assumes nothing.
+use mathlib.Core.Logic.{⊎-elim}
 use mathlib.Core.Path.{_≡_, refl, sym, _∙_}
-use Prim.Native.Nat.{_-_}
+use mathlib.Core.Bool.{true}
+use Prim.Native.Nat.{suc, _-_, _<_}
+use native.Mathlib.Omega.{arith}
 use borrow.Author.Needs.{needs}
 use borrow.Author.Tests.{not-true, not-false}
-use lib.ListN.{length, drop}
+use lib.ListN.{length, drop, getD, length-set}
 use Rattle.model.specs.Limits.{most-tasks}
+use Rattle.model.specs.Places.{noEntry}
 use Rattle.queue.specs.Entries.{soundQueue}
-use Rattle.queue.proofs.Entries.{sound-stop, sound-bad, sound-twice, sound-go, sound-end, found-nothing, found-waits}
+use Rattle.queue.proofs.Places.{unused-stop, unused-go}
+use Rattle.queue.proofs.Entries.{entry-number, testFrom, test-starts, test-ended, test-bad, test-twice, test-go, test-end}
 use Rattle.queue.proofs.is_sound.Statement.{statement}
 use Rattle.queue.proofs.is_sound.Tie as tie
 
 abbrev Inv-loop : tie.InvT-loop
-Inv-loop n entries i₀ i = soundQueue n entries ≡ soundQueue n (drop i entries)
+Inv-loop n entries seen₀ ended₀ i₀ seen ended i = (soundQueue n entries ≡ testFrom n seen ended (drop i entries)) × (length seen ≡ suc most-tasks)
 
 abbrev μ-loop : tie.MeasureT-loop
-μ-loop n entries i₀ i = most-tasks - i
+μ-loop n entries seen₀ ended₀ i₀ seen ended i = most-tasks - i
 
 returns : tie.Need-returns Inv-loop μ-loop
 returns c =
-    let a = c .before .before .before .before .before in
-    c .unused-from .ensures ∙ sym (a .loop .inv ∙ sound-stop (a .before .args .n) (a .before .args .t1) (a .loop .i) (c .before .if1 .taken))
+    let b = c .before .before in
+    let a = b .before .before .before .before in
+    let x = a .loop in
+    let l = a .before .args .t1 in
+    sym (x .inv .0 ∙ test-ended (a .before .args .n) l (x .i) (x .seen) (x .ended) (b .if1 .taken) ∙ unused-stop l (x .i) (sym (c .before .is-unused .ensures) ∙ not-true _ (c .if2 .taken)))
 
 returns-2 : tie.Need-returns-2 Inv-loop μ-loop
 returns-2 c =
-    let b = c .before in
-    let a = b .before .before .before .before .before in
-    sym (a .loop .inv ∙ sound-bad (a .before .args .n) (a .before .args .t1) (a .loop .i) (b .before .if1 .left) (sym (b .is-entry .ensures) ∙ not-true _ (c .if2 .taken)))
+    let b = c .before .before in
+    let a = b .before .before .before .before in
+    let x = a .loop in
+    sym (x .inv .0 ∙ test-bad (a .before .args .n) (a .before .args .t1) (x .i) (x .seen) (x .ended) (b .if1 .left) (sym (c .before .is-entry .ensures) ∙ not-true _ (c .if3 .taken)))
 
-loop-again : tie.Need-loop-again Inv-loop μ-loop
-loop-again c =
-    let f = c .before .before in
-    let b = f .before .before in
-    let a = b .before .before .before .before .before in
-    a .loop .inv
-    ∙ sound-go (a .before .args .n) (a .before .args .t1) (a .loop .i) (b .before .if1 .left) (sym (b .is-entry .ensures) ∙ not-false _ (f .before .if2 .left))
-    (found-nothing _ _ _ (sym (c .enum-told .given .1) ∙ f .find-from .ensures))
+number : (c : tie.Else3 Inv-loop μ-loop) → getD (c .before .before .before .before .before .before .before .args .t1) (c .before .before .before .before .before .before .loop .i) noEntry .task < suc most-tasks
+number c =
+    let a = c .before .before .before .before .before .before in
+    omega (arith, entry-number (a .before .args .n) (getD (a .before .args .t1) (a .loop .i) noEntry) (sym (c .before .is-entry .ensures) ∙ not-false _ (c .if3 .left)))
 
 returns-3 : tie.Need-returns-3 Inv-loop μ-loop
 returns-3 c =
-    let f = c .before .before in
-    let b = f .before .before in
-    let a = b .before .before .before .before .before in
-    sym (a .loop .inv
-    ∙ sound-twice (a .before .args .n) (a .before .args .t1) (a .loop .i) (b .before .if1 .left) (sym (b .is-entry .ensures) ∙ not-false _ (f .before .if2 .left))
-    (found-waits _ _ _ _ (sym (c .enum-told2 .given .1) ∙ f .find-from .ensures)))
+    let b = c .before .before .before .before in
+    let a = b .before .before .before .before in
+    let x = a .loop in
+    sym (x .inv .0 ∙ test-twice (a .before .args .n) (a .before .args .t1) (x .i) (x .seen) (x .ended) (b .if1 .left) (c .if4 .taken))
+
+loop-again : tie.Need-loop-again Inv-loop μ-loop
+loop-again c =
+    let a = c .before .before .before .before in
+    let x = a .loop in
+    let n = a .before .args .n in
+    let l = a .before .args .t1 in
+    ⊎-elim
+    (λ w. (x .inv .0 ∙ rw (w .4) (test-ended n l (x .i) (x .seen) (x .ended) (w .0 .taken) ∙ unused-go l (x .i) (sym (w .1 .ensures) ∙ not-false _ (w .2 .left))), rw (w .3) (x .inv .1)))
+    (λ w. let ok = sym (w .1 .ensures) ∙ not-false _ (w .2 .left) in (
+      x .inv .0 ∙ rw (w .5, w .6) (test-go n l (x .i) (x .seen) (x .ended) (w .0 .left) ok (w .4 .left) (omega (arith, x .inv .1, entry-number n (getD l (x .i) noEntry) ok))),
+      rw (w .5) (length-set (x .seen) _ true ∙ x .inv .1),
+    ))
+    (c .if1 .came)
 
 returns-4 : tie.Need-returns-4 Inv-loop μ-loop
 returns-4 c =
     let a = c .before in
+    let x = a .loop in
     let h : length (a .before .args .t1) ≡ most-tasks = search needs in
-    sym (a .loop .inv ∙ sound-end (a .before .args .n) (a .before .args .t1) (a .loop .i) h (c .loop-test .left))
+    sym (x .inv .0 ∙ test-end (a .before .args .n) (a .before .args .t1) (x .i) (x .seen) (x .ended) h (c .loop-test .left))
 
 pub is-sound-spec : {M : Type 1} → statement M
 is-sound-spec =
     tie.close
-    (tie.spec Inv-loop μ-loop (λ c. refl) (λ c. search needs) (λ c. search needs) (λ c κs. tt) returns (λ c κs. tt) returns-2
-    (λ c. search needs) (λ c κs. tt) (λ c. search needs) (λ c. search needs) returns-3 (λ c. search needs)
+    (tie.spec Inv-loop μ-loop (λ c. (test-starts _ (suc most-tasks) _, refl)) (λ c. search needs) (λ c. search needs) (λ c κs. tt) returns (λ c κs. tt) returns-2
+    (λ c. search needs) (λ c. number (c .before)) returns-3 (λ c. number (c .before .before)) (λ c. search needs)
     (λ c. search needs) loop-again returns-4)

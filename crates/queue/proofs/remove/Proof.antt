@@ -1,6 +1,5 @@
 -- `queue::remove` meets its contract. Assumes nothing.
 use mathlib.Core.Path.{_≡_, ap, _∙_}
-use Prim.Native.Nat.{_<_}
 use native.Mathlib.Omega.{arith}
 use borrow.Author.Needs.{needs}
 use lib.ListN.{length}
@@ -10,13 +9,13 @@ use Rattle.queue.proofs.Places.{used-length, remove-places}
 use Rattle.queue.proofs.remove.Statement.{statement}
 use Rattle.queue.proofs.remove.Tie as tie
 
-within : (c : tie.Start) → c .args .place < most-tasks
-within c = let h : length (c .args .entries) ≡ most-tasks = search needs in omega (arith, c .pre .1, used-length (c .args .entries))
+cut-requires : tie.Need-cut-requires
+cut-requires c κs = let h : length (c .args .entries) ≡ most-tasks = search needs in (c .pre .0, omega (arith, c .pre .1, used-length (c .args .entries)))
 
 returns : tie.Need-returns
 returns c =
     let a = c .before .args in
-    c .copy .ensures ∙ ap (pad noEntry most-tasks) (remove-places (a .place) (a .entries) (omega (arith, c .before .pre .1)))
+    c .cut .ensures ∙ ap (pad noEntry most-tasks) (remove-places (a .place) (a .entries) (omega (arith, c .before .pre .1)))
 
 pub remove-spec : {M : Type 1} → statement M
-remove-spec = tie.close (tie.spec (λ c. omega (arith, within c)) (λ c κs. (c .pre .0, omega (arith, within c))) returns)
+remove-spec = tie.close (tie.spec cut-requires returns)

@@ -3,20 +3,24 @@ use Prim.Native.Nat.{_+_, _-_, _≤_, _<_}
 use native.Mathlib.Nat.{add-zero}
 use native.Mathlib.Omega.{arith}
 use mathlib.Core.Path.{_≡_, refl, sym, ap, _∙_}
-use mathlib.Core.List.{_∷_}
+use mathlib.Core.Logic.{⊎-elim}
+use mathlib.Core.List.{List, _∷_}
 use lib.ListN.{length, getD, drop, length-drop}
-use Rattle.model.specs.Limits.{most-tasks}
+use Rattle.model.specs.declared.Answer.{Answer}
+use Rattle.model.specs.declared.Entry.{Entry}
+use Rattle.model.specs.Limits.{most-tasks, e-ok}
 use Rattle.model.specs.Bytes.{blocksOf, erase}
 use Rattle.model.specs.Rules.{base}
 use Rattle.model.specs.Calls as calls
-use Rattle.model.specs.Places.{noEntry, used}
+use Rattle.model.specs.Calls.{noOffset}
+use Rattle.model.specs.Places.{noEntry, pad, used}
 use Rattle.layout.specs.declared.Spot.{Spot}
 use Rattle.layout.specs.declared.Found.the-variants as found
 use Rattle.layout.specs.Layout.{Grantable}
 use Rattle.queue.proofs.Places.{used-stop, used-go, used-end, used-drop, used-length}
-use Rattle.pool.specs.Steps.{answerAs}
+use Rattle.model.proofs.Places.{tidy-is}
 use Rattle.pool.proofs.Inspecting.{place-small}
-use Rattle.pool.proofs.Serves.{Loop, loop-starts, loop-out, space, loop-long, loop-none, grantable, loop-on}
+use Rattle.pool.proofs.Serves.{Loop, loop-starts, Still, loop-answer, loop-out, space, loop-long, loop-none, grantable, loop-on}
 use borrow.Author.Needs.{needs}
 use Rattle.pool.proofs.serving.serve.Statement.{statement}
 use Rattle.pool.proofs.serving.serve.Tie as tie
@@ -27,90 +31,99 @@ Inv-loop pool₀ before most entries noted₀ i₀ pool noted i = (i ≤ length 
 abbrev μ-loop : tie.MeasureT-loop
 μ-loop pool₀ before most entries noted₀ i₀ pool noted i = most-tasks - i
 
--- the entry at hand, and those behind it
-next : (c : tie.After-need Inv-loop μ-loop) → used (drop (c .before .before .before .before .before .loop .i) (c .before .before .before .before .before .before .before .args .t2)) ≡ getD (c .before .before .before .before .before .before .before .args .t2) (c .before .before .before .before .before .loop .i) noEntry ∷ used (drop (c .before .before .before .before .before .loop .i + 1) (c .before .before .before .before .before .before .before .args .t2))
-next c = used-go (c .before .before .before .before .before .before .before .args .t2) (c .before .before .before .before .before .loop .i) (c .before .if1 .left)
+-- ---- a turn: the entries, the one at hand, and those behind it
+
+abbrev Turn : Type 0
+Turn = tie.At-loop Inv-loop μ-loop
+
+abbrev entries : Turn → List Entry
+entries a = a .before .before .args .t2
+
+abbrev this : Turn → Entry
+this a = getD (entries a) (a .loop .i) noEntry
+
+abbrev behind : Turn → List Entry
+behind a = used (drop (a .loop .i + 1) (entries a))
+
+next : (a : Turn) → (this a .task ≡ 0 → ⊥) → used (drop (a .loop .i) (entries a)) ≡ this a ∷ behind a
+next a h = used-go (entries a) (a .loop .i) h
+
+bound : (a : Turn) → a .loop .i ≤ most-tasks
+bound a = let n : length (entries a) ≡ most-tasks = search needs in omega (arith, a .loop .inv .0, used-length (entries a))
 
 -- a place is left for it in the woken list
 spare : (c : tie.After-need Inv-loop μ-loop) → c .before .before .before .before .before .before .before .args .before + c .before .before .before .before .before .loop .i < most-tasks
-spare c = space (c .before .before .before .before .before .loop .inv .1) (getD (c .before .before .before .before .before .before .before .args .t2) (c .before .before .before .before .before .loop .i) noEntry) (used (drop (c .before .before .before .before .before .loop .i + 1) (c .before .before .before .before .before .before .before .args .t2))) (next c) (c .need .result) (c .need .ensures)
+spare c = let a = c .before .before .before .before .before in space (a .loop .inv .1) (this a) (behind a) (next a (c .before .if1 .left)) (c .need .result) (c .need .ensures)
 
 fit : (c : tie.After-first-fit Inv-loop μ-loop) (s : Spot) → c .first-fit .result ≡ found.At s → Grantable (c .before .before .before .before .before .before .before .before .loop .pool) (s .place) (c .before .before .before .need .result)
-fit c s e = grantable (c .before .before .before .before .before .before .before .before .loop .inv .1) (getD (c .before .before .before .before .before .before .before .before .before .before .args .t2) (c .before .before .before .before .before .before .before .before .loop .i) noEntry) (used (drop (c .before .before .before .before .before .before .before .before .loop .i + 1) (c .before .before .before .before .before .before .before .before .before .before .args .t2))) (next (c .before .before .before)) (c .before .before .before .need .result) (c .before .before .before .need .ensures) s (sym (c .first-fit .ensures) ∙ e)
-
-bound : (c : tie.At-loop Inv-loop μ-loop) → c .loop .i ≤ most-tasks
-bound c = let n : length (c .before .before .args .t2) ≡ most-tasks = search needs in omega (arith, c .loop .inv .0, used-length (c .before .before .args .t2))
+fit c s e =
+    let a = c .before .before .before .before .before .before .before .before in
+    let n = c .before .before .before in
+    grantable (a .loop .inv .1) (this a) (behind a) (next a (n .before .if1 .left)) (n .need .result) (n .need .ensures) s (sym (c .first-fit .ensures) ∙ e)
 
 loop-holds : tie.Need-loop-holds Inv-loop μ-loop
 loop-holds c =
     let a = c .before .args in
     (omega arith, rw (add-zero (a .before)) (loop-starts (a .pool .now) (a .t2) (used (a .t2)) (a .woken) (a .before) (a .most) (λ i. omega (arith, c .slice-known .given i)) (c .before .pre) (search needs) refl))
 
-answer-requires : tie.Need-answer-requires Inv-loop μ-loop
-answer-requires c κs = (c .before .before .before .before .before .before .pre .places, bound (c .before .before .before .before))
-
-returns : tie.Need-returns Inv-loop μ-loop
-returns c =
-    loop-out (c .before .before .before .before .before .loop .inv .1) (used-stop (c .before .before .before .before .before .before .before .args .t2) (c .before .before .before .before .before .loop .i) (c .before .if1 .taken)) (c .answer .result) (c .answer .ensures ∙ ap (answerAs (c .before .before .before .before .before .loop .noted)) (used-drop (c .before .before .before .before .before .loop .i) (c .before .before .before .before .before .before .before .args .t2) (c .before .before .before .before .before .loop .inv .0)))
-
-answer-requires-2 : tie.Need-answer-requires-2 Inv-loop μ-loop
-answer-requires-2 c κs = (c .before .before .before .before .before .before .before .before .pre .places, bound (c .before .before .before .before .before .before))
-
-same-length-2 : tie.Need-same-length-2 Inv-loop μ-loop
-same-length-2 c = c .before .before .before .before .before .before .before .loop .inv .1 .long
-
-returns-2 : tie.Need-returns-2 Inv-loop μ-loop
-returns-2 c =
-    loop-long (c .before .before .before .before .before .before .before .loop .inv .1) (getD (c .before .before .before .before .before .before .before .before .before .args .t2) (c .before .before .before .before .before .before .before .loop .i) noEntry) (used (drop (c .before .before .before .before .before .before .before .loop .i + 1) (c .before .before .before .before .before .before .before .before .before .args .t2))) (next (c .before .before)) (c .before .before .need .result) (c .before .before .need .ensures) (c .before .if2 .taken) (c .answer2 .result) (c .answer2 .ensures ∙ ap (answerAs (c .before .before .before .before .before .before .before .loop .noted)) (used-drop (c .before .before .before .before .before .before .before .loop .i) (c .before .before .before .before .before .before .before .before .before .args .t2) (c .before .before .before .before .before .before .before .loop .inv .0)))
-
-first-fit-requires : tie.Need-first-fit-requires Inv-loop μ-loop
-first-fit-requires c κs = c .before .before .before .before .before .before .before .loop .inv .1 .pool
-
-answer-requires-3 : tie.Need-answer-requires-3 Inv-loop μ-loop
-answer-requires-3 c κs =
-    (c .before .before .before .before .before .before .before .before .before .before .before .before .pre .places, bound (c .before .before .before .before .before .before .before .before .before .before))
-
-same-length-3 : tie.Need-same-length-3 Inv-loop μ-loop
-same-length-3 c = c .before .before .before .before .before .before .before .before .before .before .before .loop .inv .1 .long
-
-returns-3 : tie.Need-returns-3 Inv-loop μ-loop
-returns-3 c =
-    loop-none (c .before .before .before .before .before .before .before .before .before .before .before .loop .inv .1) (getD (c .before .before .before .before .before .before .before .before .before .before .before .before .before .args .t2) (c .before .before .before .before .before .before .before .before .before .before .before .loop .i) noEntry) (used (drop (c .before .before .before .before .before .before .before .before .before .before .before .loop .i + 1) (c .before .before .before .before .before .before .before .before .before .before .before .before .before .args .t2))) (next (c .before .before .before .before .before .before)) (c .before .before .before .before .before .before .need .result) (c .before .before .before .before .before .before .need .ensures) (sym (c .before .before .before .first-fit .ensures) ∙ c .before .enum-told .given .1) (c .answer3 .result) (c .answer3 .ensures ∙ ap (answerAs (c .before .before .before .before .before .before .before .before .before .before .before .loop .noted)) (used-drop (c .before .before .before .before .before .before .before .before .before .before .before .loop .i) (c .before .before .before .before .before .before .before .before .before .before .before .before .before .args .t2) (c .before .before .before .before .before .before .before .before .before .before .before .loop .inv .0)))
-
 grant-at-requires : tie.Need-grant-at-requires Inv-loop μ-loop
-grant-at-requires c κs =
-    fit (c .before .before .before .before .before .before) (c .before .before .before .before .found .given .0 .0) (c .before .before .before .before .found .given .1)
+grant-at-requires c κs = fit (c .before .before .before .before .before .before) (c .before .before .before .before .found .given .0 .0) (c .before .before .before .before .found .given .1)
 
 offset-of-requires : tie.Need-offset-of-requires Inv-loop μ-loop
-offset-of-requires c κs =
-    place-small (c .before .before .before .before .before .before .before .before .before .before .before .before .before .before .before .before .before .loop .pool) _ _ (fit (c .before .before .before .before .before .before .before .before .before) (c .before .before .before .before .before .before .before .found .given .0 .0) (c .before .before .before .before .before .before .before .found .given .1))
-
-add-noted : tie.Need-add-noted Inv-loop μ-loop
-add-noted c = omega (arith, spare (c .before .before .before .before .before .before .before .before .before .before .before .before .before))
-
-mul-noted : tie.Need-mul-noted Inv-loop μ-loop
-mul-noted c = omega (arith, spare (c .before .before .before .before .before .before .before .before .before .before .before .before .before))
+offset-of-requires c κs = place-small (c .before .before .before .before .before .before .before .before .before .before .before .before .before .before .before .before .before .loop .pool) _ _ (fit (c .before .before .before .before .before .before .before .before .before) (c .before .before .before .before .before .before .before .found .given .0 .0) (c .before .before .before .before .before .before .before .found .given .1))
 
 array-set-from-noted : tie.Need-array-set-from-noted Inv-loop μ-loop
-array-set-from-noted c =
-    omega (arith, spare (c .before .before .before .before .before .before .before .before .before .before .before .before .before), c .before .before .before .before .before .before .before .before .before .before .before .before .before .before .before .before .before .before .loop .inv .1 .places)
+array-set-from-noted c = omega (arith, spare (c .before .before .before .before .before .before .before .before .before .before .before .before .before), c .before .before .before .before .before .before .before .before .before .before .before .before .before .before .before .before .before .before .loop .inv .1 .places)
 
 loop-again : tie.Need-loop-again Inv-loop μ-loop
 loop-again c =
-    let l = c .before .before .before .before .before .before .before .before .before .before .before .before .before .before .before .before .before .before .loop in
+    let n = c .before .before .before .before .before .before .before .before .before .before .before .before .before in
+    let a = n .before .before .before .before .before in
+    let x = a .loop in
     let p = c .before .before .before .before .before .before .before .before .found .given in
-    let es = c .before .before .before .before .before .before .before .before .before .before .before .before .before .before .before .before .before .before .before .before .args .t2 in
-    let z = next (c .before .before .before .before .before .before .before .before .before .before .before .before .before) in
-    let d = used-drop (l .i) es (l .inv .0) in (
-      omega (arith, l .inv .0, length-drop (l .i) (used es), ap length (d ∙ z)),
-      loop-on (l .inv .1) (getD (c .before .before .before .before .before .before .before .before .before .before .before .before .before .before .before .before .before .before .before .before .args .t2) (c .before .before .before .before .before .before .before .before .before .before .before .before .before .before .before .before .before .before .loop .i) noEntry) (used (drop (c .before .before .before .before .before .before .before .before .before .before .before .before .before .before .before .before .before .before .loop .i + 1) (c .before .before .before .before .before .before .before .before .before .before .before .before .before .before .before .before .before .before .before .before .args .t2))) z (c .before .before .before .before .before .before .before .before .before .before .before .before .before .need .result) (c .before .before .before .before .before .before .before .before .before .before .before .before .before .need .ensures) (p .0 .0) (sym (c .before .before .before .before .before .before .before .before .before .before .first-fit .ensures) ∙ p .1) (c .before .before .before .grant-at .last .0) (c .before .before .before .grant-at .ensures) _
-          (c .offset-of .result) (c .offset-of .ensures) refl (c .before .before .before .before .before .before .before .before .before .before .before .before .before .before .before .before .before .before .before .before .args .before + (l .i + 1)) (omega arith),
+    let z = next a (n .before .if1 .left) in
+    let d = used-drop (x .i) (entries a) (x .inv .0) in (
+      omega (arith, x .inv .0, length-drop (x .i) (used (entries a)), ap length (d ∙ z)),
+      loop-on (x .inv .1) (this a) (behind a) z (n .need .result) (n .need .ensures) (p .0 .0) (sym (c .before .before .before .before .before .before .before .before .before .before .first-fit .ensures) ∙ p .1) (c .before .before .before .grant-at .last .0) (c .before .before .before .grant-at .ensures) _
+          (c .offset-of .result) (c .offset-of .ensures) refl (a .before .before .args .before + (x .i + 1)) (omega arith),
     )
 
-returns-4 : tie.Need-returns-4 Inv-loop μ-loop
-returns-4 c =
-    let n : length (c .before .before .before .before .args .t2) ≡ most-tasks = search needs in
-    loop-out (c .before .before .loop .inv .1) (used-end (c .before .before .before .before .args .t2) (c .before .before .loop .i) n (c .before .loop-test .left)) (c .answer4 .result) (c .answer4 .ensures ∙ ap (answerAs (c .before .before .loop .noted)) (used-drop (c .before .before .loop .i) (c .before .before .before .before .args .t2) (c .before .before .loop .inv .0)))
+-- ---- after the loop
+
+still : (c : tie.Left-loop Inv-loop μ-loop) → Still (c .before .loop .inv .1)
+still c =
+    let a = c .before in
+    let v = a .loop .inv .1 in
+    let i = a .loop .i in
+    let n : length (entries a) ≡ most-tasks = search needs in
+    ⊎-elim
+    (λ w. loop-out v (used-end (entries a) i n (w .left)))
+    (λ w. ⊎-elim
+    (λ w. loop-out v (used-stop (entries a) i (w .3 .taken)))
+    (λ w. ⊎-elim
+    (λ w. loop-long v (this a) (behind a) (next a (w .3 .left)) (w .4 .result) (w .4 .ensures) (w .5 .taken))
+    (λ w. loop-none v (this a) (behind a) (next a (w .3 .left)) (w .4 .result) (w .4 .ensures) (sym (w .7 .ensures) ∙ w .9 .given .1))
+    w)
+    w)
+    (c .loop-test .came)
+
+rest-requires : tie.Need-rest-requires Inv-loop μ-loop
+rest-requires c κs = (c .before .before .before .before .pre .places, bound (c .before .before))
+
+returns : tie.Need-returns Inv-loop μ-loop
+returns c =
+    let a = c .before .before .before in
+    let x = a .loop in
+    loop-answer (x .inv .1) (still (c .before .before)) _ (rw (c .rest .ensures, used-drop (x .i) (entries a) (x .inv .0)))
+
+returns-2 : tie.Need-returns-2 Inv-loop μ-loop
+returns-2 c =
+    let a = c .before .before in
+    let x = a .loop in
+    let z : x .i ≡ 0 = omega (arith, c .if3 .left) in
+    let n : length (entries a) ≡ most-tasks = search needs in
+    let w : entries a ≡ pad noEntry most-tasks (used (entries a)) = rw (← n) (tidy-is (entries a) (a .before .before .pre .places)) in
+    loop-answer (x .inv .1) (still (c .before)) _ (rw z (ap {B = Answer} (λ (es : List Entry). record { code = e-ok; offset = noOffset; woken = x .noted; queue = record { entries = es } }) w))
 
 pub serve-spec : {M : Type 1} → statement M
 serve-spec =
@@ -121,28 +134,21 @@ serve-spec =
     loop-holds
     (λ c. search needs)
     (λ c. search needs)
-    answer-requires
-    (λ c. c .before .before .before .before .before .loop .inv .1 .long)
-    returns
     (λ c κs. search needs)
-    answer-requires-2
-    same-length-2
-    returns-2
-    first-fit-requires
+    (λ c κs. c .before .before .before .before .before .before .before .loop .inv .1 .pool)
     (λ c. search needs)
     (λ c. search needs)
-    answer-requires-3
-    same-length-3
-    returns-3
     (λ c. search needs)
     grant-at-requires
     offset-of-requires
-    add-noted
-    mul-noted
+    (λ c. omega (arith, spare (c .before .before .before .before .before .before .before .before .before .before .before .before .before)))
+    (λ c. omega (arith, spare (c .before .before .before .before .before .before .before .before .before .before .before .before .before)))
     array-set-from-noted
     (λ c. omega arith)
     (λ c. omega arith)
     loop-again
-    (λ c κs. (c .before .before .before .pre .places, bound (c .before)))
+    rest-requires
+    (λ c. c .before .before .before .loop .inv .1 .long)
+    returns
     (λ c. c .before .before .loop .inv .1 .long)
-    returns-4)
+    returns-2)

@@ -1,21 +1,21 @@
--- `queue::find_from` meets its contract: none of the entries passed is the task's. Assumes nothing.
-use mathlib.Core.Path.{_≡_, refl, sym, _∙_}
+-- `queue::find` meets its contract: none of the entries passed is the task's. Assumes nothing.
+use mathlib.Core.Path.{_≡_, sym, _∙_}
 use Prim.Native.Nat.{_-_}
 use borrow.Author.Needs.{needs}
 use lib.ListN.{length, drop}
 use Rattle.model.specs.Limits.{most-tasks}
 use Rattle.model.specs.Places.{used}
-use Rattle.queue.specs.Entries.{foundFrom}
+use Rattle.queue.specs.Entries.{found}
 use Rattle.queue.proofs.Places.{used-stop, used-end}
-use Rattle.queue.proofs.Entries.{found-stop, found-here, found-go}
-use Rattle.queue.proofs.find_from.Statement.{statement}
-use Rattle.queue.proofs.find_from.Tie as tie
+use Rattle.queue.proofs.Entries.{foundFrom, found-starts, found-stop, found-here, found-go}
+use Rattle.queue.proofs.find.Statement.{statement}
+use Rattle.queue.proofs.find.Tie as tie
 
 abbrev Inv-loop : tie.InvT-loop
-Inv-loop first task entries i₀ i = foundFrom first task (used (drop first entries)) ≡ foundFrom i task (used (drop i entries))
+Inv-loop task entries i₀ i = found task (used entries) ≡ foundFrom i task (used (drop i entries))
 
 abbrev μ-loop : tie.MeasureT-loop
-μ-loop first task entries i₀ i = most-tasks - i
+μ-loop task entries i₀ i = most-tasks - i
 
 returns : tie.Need-returns Inv-loop μ-loop
 returns c =
@@ -40,8 +40,8 @@ returns-3 c =
     let h : length l ≡ most-tasks = search needs in
     sym (a .loop .inv ∙ found-stop l (a .loop .i) _ (used-end l (a .loop .i) h (c .loop-test .left)))
 
-pub find-from-spec : {M : Type 1} → statement M
-find-from-spec =
+pub find-spec : {M : Type 1} → statement M
+find-spec =
     tie.close
-    (tie.spec Inv-loop μ-loop (λ c. refl) (λ c. search needs) (λ c. search needs) returns returns-2 (λ c. search needs)
+    (tie.spec Inv-loop μ-loop (λ c. found-starts _ _) (λ c. search needs) (λ c. search needs) returns returns-2 (λ c. search needs)
     (λ c. search needs) loop-again returns-3)
