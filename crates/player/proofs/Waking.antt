@@ -1,45 +1,36 @@
--- The tasks that a call wakes have numbers above 0 and fit into their places, so that they can be read back from these. Assumes nothing.
-use Prim.Native.Nat.{ℕ, zero, suc, _≤_}
-use mathlib.Core.Path.{_≡_, refl, sym, ap, _∙_}
-use mathlib.Core.Bool.{true, false, not}
+-- The tasks that a call wakes have numbers above 0 and fit into their places. Assumes nothing.
+use Prim.Native.Nat.{ℕ, _≤_}
+use mathlib.Core.Path.{_≡_, refl, _∙_}
+use mathlib.Core.Bool.{true, false}
 use mathlib.Core.List.{List, [], _∷_, _++_}
 use mathlib.Core.Option.{Option, none, some}
 use native.Mathlib.Omega.{arith}
 use lib.Dec.{eqb}
 use lib.IntN.{ℤ}
 use lib.ListN.{length}
-use borrow.Author.Tests.{eqb-true, ne-eqb}
+use borrow.Author.Tests.{eqb-true}
 use Rattle.model.specs.declared.Entry.{Entry}
 use Rattle.model.specs.declared.Woken.{Woken}
 use Rattle.model.specs.Limits.{most-tasks, e-tmout}
 use Rattle.model.specs.Waiting.{waits, remove, expires, expired, remaining}
 use Rattle.model.specs.Rules.{Rules, base}
 use Rattle.model.specs.Calls.{Call, get, release, cancel, tick, inquire, entryOf, leave, Store, State, blocks, fitting, given, serve, goes, tests, act}
-use Rattle.model.specs.Places.{noWoken, pad, wokenOf}
 use Rattle.model.specs.Pool.{Stored, view, isSound, rulesOf, perform}
 use Rattle.model.proofs.Tests.{by, clash}
 use Rattle.model.proofs.Places.{Live, queued-live}
 use Rattle.model.proofs.Soundness.{passed-cancel, open-sound}
 use Rattle.model.proofs.Pool.{open-stored, by-unsound, by-refused, by-done}
 use Rattle.model.proofs.Theorems.{base-woken-fit}
-use Rattle.player.specs.Steps.{noted}
 
 -- no woken task has the number 0
-unfoldable Named : List Woken → Type 0
+unfoldable pub Named : List Woken → Type 0
 Named [] = Unit {0}
 Named (w ∷ ws) = (w .task ≡ 0 → ⊥) × Named ws
 
-named-append : (a b : List Woken) → Named a → Named b → Named (a ++ b)
+pub named-append : (a b : List Woken) → Named a → Named b → Named (a ++ b)
 unfolding Named
 named-append [] b v w = w
 named-append (x ∷ a) b v w = (v .0, named-append a b (v .1) w)
-
-noted-pad : (n : ℕ) (ws : List Woken) → Named ws → length ws ≤ n → noted (pad noWoken n ws) ≡ ws
-unfolding noted pad Named
-noted-pad zero [] v h = refl
-noted-pad (suc n) [] v h = refl
-noted-pad zero (w ∷ ws) v h = absurd (omega (arith, h))
-noted-pad (suc n) (w ∷ ws) v h = rw (ne-eqb (w .task) 0 (v .0)) (ap (λ (k : List Woken). w ∷ k) (noted-pad n ws (v .1) (omega (arith, h))))
 
 -- ---- who leaves the queue
 
@@ -94,10 +85,9 @@ sound-named c p h none e =
     let o = open-sound K (blocks K) (view p) (open-stored K p h .0) in
     rw (by-done K c p h e) (act-named K (blocks K) c (view p) (queued-live K (view p .queue) (o .order)) e)
 
--- the places of the woken list that are used are the list
-pub perform-noted : (c : Call) (p : Stored) → noted (wokenOf (perform base c p .said .woken)) ≡ perform base c p .said .woken
-unfolding noted pad
-perform-noted c p =
+pub perform-woken : (c : Call) (p : Stored) → Named (perform base c p .said .woken) × (length (perform base c p .said .woken) ≤ most-tasks)
+unfolding Named
+perform-woken c p =
     by (isSound base p)
-    (λ h. noted-pad most-tasks (perform base c p .said .woken) (sound-named c p h (tests (rulesOf base p) (blocks (rulesOf base p)) c (view p)) refl) (base-woken-fit c p h))
-    (λ h. rw (by-unsound (rulesOf base p) c p h))
+    (λ h. (sound-named c p h (tests (rulesOf base p) (blocks (rulesOf base p)) c (view p)) refl, base-woken-fit c p h))
+    (λ h. rw (by-unsound (rulesOf base p) c p h) (tt, omega arith))

@@ -1,11 +1,8 @@
 -- What a step of a log does: the state and the text that the call of one record leaves.
 use Prim.Native.Nat.{ℕ, _+_, _*_, _≤_}
 use mathlib.Core.Path.{_≡_}
-use mathlib.Core.List.{List, [], _∷_}
-use mathlib.Core.Bool.{cond}
-use lib.Dec.{eqb}
+use mathlib.Core.List.{List, []}
 use Rattle.model.specs.declared.Queue.{Queue}
-use Rattle.model.specs.declared.Woken.{Woken}
 use Rattle.model.specs.Limits.{most-tasks}
 use Rattle.model.specs.Rules.{base}
 use Rattle.model.specs.Calls.{Reply}
@@ -22,23 +19,15 @@ use Rattle.player.specs.declared.Progress.{Progress}
 abbrev pub replyTo : Record → List ℕ → Queue → Reply Stored
 replyTo r l q = perform base (callOf r) (stored l q)
 
--- the woken tasks: those before the first place with task 0
-unfoldable pub noted : List Woken → List Woken
-noted [] = []
-noted (w ∷ ws) = cond (eqb (w .task) 0) [] (w ∷ noted ws)
-
 -- the line behind the records, where no record stands at the place `at` of the log
 abbrev pub lastText : Read → (at count : ℕ) → List ℕ
 lastText End at count = endLine count
 lastText Bad at count = badLine at
 lastText (Taken r n) at count = []
 
--- the most bytes of the lines of woken tasks, and of the text of a step
-abbrev pub longestWoken : ℕ
-longestWoken = most-tasks * longestLine
-
+-- the most bytes of the text of a step: the line of the answer and a line for each task
 abbrev pub longestStep : ℕ
-longestStep = longestAnswer + longestWoken
+longestStep = longestAnswer + most-tasks * longestLine
 
 -- A step from the pool l and the queue q, its text written into `out` from the place `at` on: the pool and queue that it leaves are those of the
 -- reply, and the text is that of what the reply tells.
