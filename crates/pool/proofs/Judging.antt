@@ -5,11 +5,11 @@ use mathlib.Core.Bool.{Bool, true, false, not, cond, _&&_}
 use mathlib.Core.List.{List, []}
 use mathlib.Core.Option.{Option, none, some}
 use native.Mathlib.Omega.{arith}
+use mir.Syntax.{w32}
+use mir.Val.{ofZ, toZ}
 use lib.ListN.{length, getD}
 use lib.Dec.{eqb}
 use lib.IntN.{ℤ, pos, negsuc}
-use mir.Syntax.{w32}
-use mir.Val.{ofZ, toZ}
 use borrow.Author.Tests.{ne-eqb}
 use Rattle.model.specs.declared.BlockOffset.{BlockOffset}
 use Rattle.model.specs.declared.Entry.{Entry}

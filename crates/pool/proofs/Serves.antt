@@ -14,8 +14,8 @@ use Rattle.model.specs.Limits.{most-tasks, longest-pool, e-ok}
 use Rattle.model.specs.Blocks.{Block, total, tiled, fits, firstFit, granted}
 use Rattle.model.specs.Bytes.{blocksOf, render, erase}
 use Rattle.model.specs.Rules.{queued, needOf, base}
-use Rattle.model.specs.Calls.{offsetOf, Served, state, blocks, serve}
-use Rattle.model.specs.Places.{used}
+use Rattle.model.specs.Calls.{offsetOf, Served, state, blocks, serve, noOffset}
+use Rattle.model.specs.Places.{used, queueOf}
 use Rattle.model.specs.Pool.{result}
 use Rattle.model.proofs.Waiting.{Asked, open-queued, entry-asked}
 use Rattle.model.proofs.Blocks.{granted-fits, granted-total, granted-tiled}
@@ -26,7 +26,7 @@ use Rattle.layout.specs.declared.Found.the-variants as found
 use Rattle.layout.specs.Layout.{soundPool, firstFitOf, changed, Grantable}
 use Rattle.layout.proofs.Sound.{open-pool, close-pool}
 use Rattle.layout.proofs.Finding.{found-run, no-run}
-use Rattle.pool.specs.Steps.{answerAs, servedAs, Ready}
+use Rattle.pool.specs.Steps.{servedAs, Ready}
 
 -- ---- bytes that show a list: x with its headers written
 
@@ -54,6 +54,9 @@ shown x n bs e t s z p k =
       blocks-are = b;
       shows = refl;
     }
+
+abbrev pub answerAs : List Woken → List Entry → Answer
+answerAs w es = record { code = e-ok; offset = noOffset; woken = w; queue = queueOf es }
 
 -- ---- the loop. x: the bytes at entry without their headers; v: what is to be served at entry, behind k tasks noted in w
 

@@ -96,9 +96,6 @@ pub record Fair (l : List ℕ) (q : Queue) (e : Entry) (f : Found) : Type 0 wher
 
 -- ---- serving
 
-abbrev pub answerAs : List Woken → List Entry → Answer
-answerAs w es = record { code = e-ok; offset = noOffset; woken = w; queue = queueOf es }
-
 -- what was served, behind k tasks that were noted in w, and the bytes x with the headers written
 abbrev pub servedAs : List ℕ → List Woken → ℕ → Served (List Block) → Result
 servedAs x w k v = result (record { code = e-ok; offset = noOffset; woken = sets w k (v .woken); queue = queueOf (v .state .queue) }) (render (v .state .pool) x)

@@ -12,9 +12,9 @@ use borrow.Author.Tests.{eq-eqb, ne-eqb}
 use Rattle.model.specs.declared.Entry.{Entry}
 use Rattle.model.specs.Limits.{most-tasks}
 use Rattle.model.specs.Places.{noEntry, pad, used, isUnused, allUnused, tidy}
-use Rattle.queue.specs.Entries.{without}
 use Rattle.model.proofs.Tests.{by}
 use Rattle.model.proofs.Places.{tidy-is}
+use Rattle.queue.specs.Entries.{without}
 
 -- ---- any list in its places
 

@@ -89,7 +89,7 @@ fn is_unused(e: Entry) -> bool
 // A place for each task's number, and for 0.
 const NUMBERS: usize = TASKS + 1;
 
-// Whether the queue is sound over a pool of `n` bytes.
+// Whether the queue is sound over a pool of `n` bytes. `seen` marks the tasks of the entries passed; once these have ended, only unused places follow.
 pub fn is_sound(entries: [Entry; TASKS], n: usize) -> bool
     ensures { λ r. ⌜ r ≡ soundQueue n entries ⌝ }
 {

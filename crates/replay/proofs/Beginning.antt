@@ -4,10 +4,10 @@ use mathlib.Core.Path.{_≡_, refl, sym, ap, _∙_}
 use mathlib.Core.Bool.{true}
 use mathlib.Core.List.{List, [], _∷_, _++_}
 use native.Mathlib.Omega.{arith}
-use lib.ListN.{length, take, drop, replicate, length-replicate}
-use lib.Seq.{take-append-seam}
 use mir.Syntax.{w32}
 use mir.Val.{ofZ}
+use lib.ListN.{length, take, drop, replicate, length-replicate}
+use lib.Seq.{take-append-seam}
 use Rattle.model.specs.declared.Answer.{Answer}
 use Rattle.model.specs.Limits.{e-par}
 use Rattle.model.specs.Rules.{base}

@@ -4,11 +4,10 @@ use mathlib.Core.Path.{_≡_, refl, sym, ap, _∙_}
 use mathlib.Core.Bool.{true, false}
 use mathlib.Core.List.{List, [], _∷_, _++_, append-assoc, append-nil}
 use native.Mathlib.Omega.{arith}
-use types.Run.{OneOf, miss}
-use denote.Enum.Declared.{tagOf}
 use lib.Dec.{leb}
 use lib.ListN.{length, drop, length-drop}
 use lib.Seq.{drop-drop}
+use denote.Enum.Declared.{tagOf}
 use borrow.Author.Tests.{leb-true, leb-false}
 use Rattle.model.specs.declared.Queue.{Queue}
 use Rattle.model.specs.Pool.{Stored, stored}
@@ -18,8 +17,8 @@ use Rattle.numbers.proofs.Wrote.{wrote-append}
 use Rattle.log.specs.declared.Record.{Record}
 use Rattle.log.specs.declared.Read.{Read}
 use Rattle.log.specs.declared.Read.the-variants.{Taken, End, Bad}
-use Rattle.log.proofs.Read.{the-type}
 use Rattle.log.specs.Record.{recordOf}
+use Rattle.log.proofs.Read.{the-type}
 use Rattle.log.proofs.Theorems.{record-length}
 use Rattle.transcript.specs.Lines.{longestLine}
 use Rattle.transcript.specs.Transcript.{answerText, recordsText}
@@ -28,6 +27,7 @@ use Rattle.player.specs.declared.Progress.{Progress}
 use Rattle.player.specs.Steps.{replyTo, lastText, longestStep, Stepped}
 use Rattle.replay.specs.declared.Stage.{Stage}
 use Rattle.replay.specs.Stages.{textSpace, pending, Staged, Ready, Played}
+use types.Run.{OneOf, miss}
 
 -- what `let .. else` tells of an answer of the reader that is no record: its variant is the second or the third
 abbrev pub NoRecord : Read → Type 0

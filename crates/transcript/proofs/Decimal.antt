@@ -7,8 +7,8 @@ use mathlib.Core.Logic.{⊎-elim}
 use native.Mathlib.Omega.{arith}
 use native.Mathlib.Nat.{pow-suc}
 use lib.ListN.{length, length-append}
-use borrow.Author.Tests.{lt-ltb, le-ltb, le-leb}
 use lib.Dec.{leb}
+use borrow.Author.Tests.{lt-ltb, le-ltb, le-leb}
 use Rattle.model.proofs.Tests.{and-i, and-l, and-r}
 use Rattle.numbers.proofs.Decode.{side}
 use Rattle.transcript.specs.Text.{digit, digits, decimal, valueFrom, allDigits}

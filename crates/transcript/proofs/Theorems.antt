@@ -5,11 +5,11 @@ use mathlib.Core.Bool.{true, false, cond}
 use mathlib.Core.List.{List, [], _∷_, _++_, append-assoc}
 use native.Mathlib.Nat.{add-zero, zero-add}
 use native.Mathlib.Omega.{arith}
+use mir.Syntax.{w32}
+use mir.Val.{SFits}
 use lib.IntN.{ℤ, pos, negsuc}
 use lib.ListN.{length, drop, getD, length-append, length-replicate}
 use lib.Seq.{drop-append-seam}
-use mir.Syntax.{w32}
-use mir.Val.{SFits}
 use borrow.Author.Tests.{le-leb, lt-leb}
 use Rattle.model.specs.Limits.{e-ok, e-par}
 use Rattle.model.specs.Rules.{base}

@@ -4,8 +4,8 @@ use mathlib.Core.Path.{_∙_}
 use native.Mathlib.Omega.{arith}
 use mir.Syntax.{w32}
 use mir.ValLaws.{toZ-pos}
-use Rattle.log.proofs.Forms.{limit-none, limit-some}
 use borrow.Author.Needs.{needs}
+use Rattle.log.proofs.Forms.{limit-none, limit-some}
 use Rattle.log.proofs.limit_of.Statement.{statement}
 use Rattle.log.proofs.limit_of.Tie as tie
 

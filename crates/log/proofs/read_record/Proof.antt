@@ -1,8 +1,8 @@
 -- `read_record` meets its contract: the loop keeps `Reading`, the fields read so far. Assumes nothing.
 use Prim.Native.Nat.{_-_}
 use mathlib.Core.Path.{sym, _∙_}
-use borrow.Author.Needs.{needs}
 use native.Mathlib.Omega.{arith}
+use borrow.Author.Needs.{needs}
 use Rattle.log.proofs.Reading.{Reading, suffix, record-none, record-refused, reading-start, reading-refused, reading-more, reading-done}
 use Rattle.log.proofs.read_record.Statement.{statement}
 use Rattle.log.proofs.read_record.Tie as tie

@@ -1,8 +1,8 @@
 -- `record_from` meets its contract, a case for each kind. Assumes nothing.
 use mir.Syntax.{w32}
 use mir.ValLaws.{toZ-ofZ}
-use Rattle.log.proofs.Forms.{get-limited, get-refused}
 use borrow.Author.Needs.{needs}
+use Rattle.log.proofs.Forms.{get-limited, get-refused}
 use Rattle.log.proofs.record_from.Statement.{statement}
 use Rattle.log.proofs.record_from.Tie as tie
 

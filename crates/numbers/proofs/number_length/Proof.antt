@@ -1,8 +1,8 @@
 -- `number_length` meets its contract: the bytes counted and those left make up the length. Assumes nothing.
 use Prim.Native.Nat.{_+_}
 use mathlib.Core.Path.{_≡_}
-use lib.ListN.{length}
 use native.Mathlib.Omega.{arith}
+use lib.ListN.{length}
 use borrow.Author.Needs.{needs}
 use Rattle.numbers.specs.Number.{encode}
 use Rattle.numbers.proofs.Theorems.{encode-length}

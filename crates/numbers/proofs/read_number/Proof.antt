@@ -1,14 +1,14 @@
 -- `read_number` meets its contract: the loop keeps `Reading`, the groups read so far in front of the rest. Assumes nothing.
 use Prim.Native.Nat.{_-_}
 use mathlib.Core.Logic.{⊎-elim}
-use lib.ListN.{length}
 use native.Mathlib.Omega.{arith}
+use lib.ListN.{length}
 use borrow.Author.Needs.{needs}
 use Rattle.numbers.proofs.Reading.{Reading, Fifth, Shortest, reading-start, reading-weight, reading-fits, reading-end, reading-zero, reading-last, reading-more, reading-fifth}
-use Rattle.numbers.proofs.read_number.Statement.{statement}
-use Rattle.numbers.proofs.read_number.Tie as tie
 use Rattle.numbers.proofs.read_number.Reads as reads
 use Rattle.numbers.proofs.read_number.Lts as lts
+use Rattle.numbers.proofs.read_number.Statement.{statement}
+use Rattle.numbers.proofs.read_number.Tie as tie
 
 abbrev Inv-loop : tie.InvT-loop
 Inv-loop s value₀ weight₀ i₀ value weight i = Reading s value weight i

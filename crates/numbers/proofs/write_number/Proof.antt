@@ -1,7 +1,7 @@
 -- `write_number` meets its contract: the loop keeps `Writing`, what is left to write. Assumes nothing.
 use mathlib.Core.Path.{refl, _∙_}
-use lib.ListN.{length-set}
 use native.Mathlib.Omega.{arith}
+use lib.ListN.{length-set}
 use borrow.Author.Needs.{needs}
 use Rattle.numbers.proofs.Wrote.{wrote-none}
 use Rattle.numbers.proofs.Writing.{Writing, length-last, length-more, writing-more, writing-last}

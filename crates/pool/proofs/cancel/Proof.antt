@@ -1,26 +1,26 @@
 -- `pool::cancel` meets its contract. Assumes nothing.
 use Prim.Native.Nat.{ℕ, _+_}
-use Rattle.queue.specs.declared.Slot.the-variants as slot
 use mathlib.Core.Path.{_≡_, refl, sym, ap, _∙_}
-use native.Mathlib.Omega.{arith}
-use borrow.Author.Tests.{not-true, not-false}
-use Rattle.model.specs.Calls as calls
-use Rattle.layout.specs.declared.Target.the-variants as target
 use mathlib.Core.Bool.{true}
 use mathlib.Core.List.{List}
+use native.Mathlib.Omega.{arith}
 use lib.ListN.{length, set}
+use borrow.Author.Tests.{not-true, not-false}
+use borrow.Author.Needs.{needs}
+use Rattle.model.specs.Calls as calls
 use Rattle.model.specs.declared.Woken.{Woken}
 use Rattle.model.specs.Limits.{most-tasks, e-rlwai}
 use Rattle.model.specs.Rules.{okTask, base}
 use Rattle.model.specs.Waiting.{remove}
 use Rattle.model.specs.Places.{noEntry, pad, entriesOf}
 use Rattle.model.specs.Pool.{result}
-use Rattle.queue.proofs.Entries.{Found, found-nothing, found-at}
 use Rattle.model.specs.declared.Queue.{Queue}
+use Rattle.layout.specs.declared.Target.the-variants as target
 use Rattle.layout.specs.declared.Surveyed.{Surveyed}
+use Rattle.queue.specs.declared.Slot.the-variants as slot
+use Rattle.queue.proofs.Entries.{Found, found-nothing, found-at}
 use Rattle.pool.proofs.Inspecting.{Told, told, told-small, unsound, called-unsound}
 use Rattle.pool.proofs.Changing.{cancel-unknown, cancel-idle, cancel-ready, cancel-done}
-use borrow.Author.Needs.{needs}
 use Rattle.pool.proofs.cancel.Statement.{statement}
 use Rattle.pool.proofs.cancel.Tie as tie
 

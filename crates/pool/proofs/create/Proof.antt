@@ -1,11 +1,11 @@
 -- `pool::create` meets its contract. Assumes nothing.
 use mathlib.Core.Path.{_≡_, ap}
+use mathlib.Core.List.{[]}
+use borrow.Author.Needs.{needs}
 use Rattle.model.specs.declared.Queue.{Queue}
 use Rattle.model.specs.Places.{queueOf}
 use Rattle.model.specs.Pool.{result}
-use mathlib.Core.List.{[]}
 use Rattle.pool.proofs.Changing.{create-uneven, create-short, create-long, create-done}
-use borrow.Author.Needs.{needs}
 use Rattle.pool.proofs.create.Statement.{statement}
 use Rattle.pool.proofs.create.Tie as tie
 

@@ -1,24 +1,23 @@
 -- `pool::get` meets its contract. Assumes nothing.
 use Prim.Native.Nat.{ℕ}
-use Rattle.model.specs.Rules.{needOf}
 use mathlib.Core.Path.{_≡_, sym, ap, _∙_}
+use mathlib.Core.List.{List}
 use mir.Syntax.{w32}
 use mir.ValLaws.{toZ-ofZ}
 use lib.IntN.{ℤ}
-use borrow.Author.Tests.{not-true, not-false}
-use Rattle.model.specs.Rules.{base}
 use lib.ListN.{length}
+use borrow.Author.Tests.{not-true, not-false}
+use borrow.Author.Needs.{needs}
+use Rattle.model.specs.Rules.{needOf, base}
 use Rattle.model.specs.Places.{entriesOf}
 use Rattle.model.specs.Calls as calls
-use Rattle.layout.specs.declared.Target.the-variants as target
-use Rattle.pool.specs.Steps.{request, asked, judged, inspected}
 use Rattle.model.specs.declared.Queue.{Queue}
-use Rattle.layout.specs.declared.Surveyed.{Surveyed}
-use mathlib.Core.List.{List}
 use Rattle.model.specs.Calls.{Request}
+use Rattle.layout.specs.declared.Target.the-variants as target
+use Rattle.layout.specs.declared.Surveyed.{Surveyed}
+use Rattle.pool.specs.Steps.{request, asked, judged, inspected}
 use Rattle.pool.proofs.Inspecting.{Told, told, unsound, called-unsound}
 use Rattle.pool.proofs.Judging.{get-refused, get-admitted, get-fair}
-use borrow.Author.Needs.{needs}
 use Rattle.pool.proofs.get.Statement.{statement}
 use Rattle.pool.proofs.get.Tie as tie
 

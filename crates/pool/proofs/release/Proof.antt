@@ -1,19 +1,19 @@
 -- `pool::release` meets its contract. Assumes nothing.
-use Rattle.layout.specs.declared.Target.{Target}
+use Prim.Native.Nat.{ℕ}
 use mathlib.Core.Path.{ap, _∙_}
+use mathlib.Core.List.{List}
 use native.Mathlib.Omega.{arith}
 use borrow.Author.Tests.{not-true, not-false}
+use borrow.Author.Needs.{needs}
 use Rattle.model.specs.Calls as calls
 use Rattle.model.specs.Pool.{result}
-use Rattle.pool.specs.Steps.{blockAt, inspected}
 use Rattle.model.specs.declared.Queue.{Queue}
-use Rattle.layout.specs.declared.Surveyed.{Surveyed}
-use mathlib.Core.List.{List}
-use Prim.Native.Nat.{ℕ}
 use Rattle.model.specs.declared.BlockOffset.{BlockOffset}
+use Rattle.layout.specs.declared.Target.{Target}
+use Rattle.layout.specs.declared.Surveyed.{Surveyed}
+use Rattle.pool.specs.Steps.{blockAt, inspected}
 use Rattle.pool.proofs.Inspecting.{Told, told, told-small, unsound, called-unsound}
 use Rattle.pool.proofs.Changing.{release-refused, releasable, release-ready, release-done}
-use borrow.Author.Needs.{needs}
 use Rattle.pool.proofs.release.Statement.{statement}
 use Rattle.pool.proofs.release.Tie as tie
 

@@ -1,17 +1,17 @@
 -- `pool::tick` meets its contract. Assumes nothing.
 use Prim.Native.Nat.{ℕ, _+_}
 use mathlib.Core.Path.{refl}
+use mathlib.Core.List.{List}
 use native.Mathlib.Omega.{arith}
 use borrow.Author.Tests.{not-true, not-false}
+use borrow.Author.Needs.{needs}
 use Rattle.model.specs.Calls as calls
-use Rattle.layout.specs.declared.Target.the-variants as target
 use Rattle.model.specs.Pool.{result}
 use Rattle.model.specs.declared.Queue.{Queue}
+use Rattle.layout.specs.declared.Target.the-variants as target
 use Rattle.layout.specs.declared.Surveyed.{Surveyed}
-use mathlib.Core.List.{List}
 use Rattle.pool.proofs.Inspecting.{Told, told, told-small, unsound, called-unsound}
 use Rattle.pool.proofs.Changing.{tick-ready, tick-done}
-use borrow.Author.Needs.{needs}
 use Rattle.pool.proofs.tick.Statement.{statement}
 use Rattle.pool.proofs.tick.Tie as tie
 

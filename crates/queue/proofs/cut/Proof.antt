@@ -1,12 +1,12 @@
 -- `queue::cut` meets its contract: the places before `i` hold what they are to hold, those from there on what they held. Assumes nothing.
+use Prim.Native.Nat.{ℕ, _+_, _-_, _≤_}
 use mathlib.Core.Path.{_≡_, refl, sym, _∙_}
 use mathlib.Core.List.{_++_}
 use mathlib.Core.Logic.{⊎-elim}
-use Prim.Native.Nat.{ℕ, _+_, _-_, _≤_}
 use native.Mathlib.Omega.{arith}
-use borrow.Author.Needs.{needs}
 use lib.ListN.{length, take, drop, getD, List·getD-eq-default}
 use lib.Seq.{getD-set-other}
+use borrow.Author.Needs.{needs}
 use Rattle.model.specs.Limits.{most-tasks}
 use Rattle.model.specs.Places.{noEntry, pad, used}
 use Rattle.queue.proofs.Places.{tidy-entry, copy-step, copy-end}

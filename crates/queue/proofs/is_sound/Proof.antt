@@ -1,12 +1,12 @@
 -- `queue::is_sound` meets its contract: what is tested so far leaves the rest to decide. Assumes nothing.
+use Prim.Native.Nat.{suc, _-_, _<_}
 use mathlib.Core.Logic.{⊎-elim}
 use mathlib.Core.Path.{_≡_, refl, sym, _∙_}
 use mathlib.Core.Bool.{true}
-use Prim.Native.Nat.{suc, _-_, _<_}
 use native.Mathlib.Omega.{arith}
+use lib.ListN.{length, drop, getD, length-set}
 use borrow.Author.Needs.{needs}
 use borrow.Author.Tests.{not-true, not-false}
-use lib.ListN.{length, drop, getD, length-set}
 use Rattle.model.specs.Limits.{most-tasks}
 use Rattle.model.specs.Places.{noEntry}
 use Rattle.queue.specs.Entries.{soundQueue}

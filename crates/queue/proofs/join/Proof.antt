@@ -1,10 +1,10 @@
 -- `queue::join` meets its contract: the places passed are entries. Assumes nothing.
-use mathlib.Core.Path.{_≡_, refl, sym, ap, _∙_}
 use Prim.Native.Nat.{_+_, _-_}
+use mathlib.Core.Path.{_≡_, refl, sym, ap, _∙_}
 use native.Mathlib.Omega.{arith}
-use borrow.Author.Needs.{needs}
 use lib.ListN.{length, drop}
 use lib.Seq.{set-out}
+use borrow.Author.Needs.{needs}
 use Rattle.model.specs.Limits.{most-tasks}
 use Rattle.model.specs.Places.{noEntry, pad, used}
 use Rattle.queue.proofs.Places.{used-stop, used-go, join-places}

@@ -1,8 +1,8 @@
 -- `queue::tick` meets its contract. Assumes nothing.
-use mathlib.Core.Path.{_≡_}
 use Prim.Native.Nat.{_-_}
-use borrow.Author.Needs.{needs}
+use mathlib.Core.Path.{_≡_}
 use lib.ListN.{length}
+use borrow.Author.Needs.{needs}
 use Rattle.model.specs.Limits.{most-tasks}
 use Rattle.queue.proofs.Places.{used-stop, used-end}
 use Rattle.queue.proofs.Time.{Ticking, tick-start, tick-end, tick-leave, tick-stay}

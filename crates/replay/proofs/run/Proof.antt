@@ -3,9 +3,9 @@ use mathlib.Core.Path.{refl, _∙_}
 use native.Mathlib.Omega.{arith}
 use lib.ListN.{length}
 use borrow.Author.Needs.{needs}
+use Rattle.numbers.proofs.Theorems.{number-within}
 use Rattle.transcript.proofs.Writing.{wrote-length}
 use Rattle.transcript.proofs.Theorems.{length-pool}
-use Rattle.numbers.proofs.Theorems.{number-within}
 use Rattle.replay.proofs.Beginning.{begun}
 use Rattle.replay.proofs.run.Statement.{statement}
 use Rattle.replay.proofs.run.Tie as tie

@@ -1,7 +1,7 @@
 -- `put_decimal` meets its contract: the digits before the last are written by itself. The measure is the number. Assumes nothing.
 use Prim.Native.Nat.{ℕ, _<_}
-use lib.ListN.{length-set}
 use native.Mathlib.Omega.{arith}
+use lib.ListN.{length-set}
 use borrow.Author.Needs.{needs}
 use borrow.Fn.Kinds.{In}
 use borrow.Fn.PlainCycle.{Measures, is, falls, and}

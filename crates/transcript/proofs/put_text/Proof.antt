@@ -1,8 +1,8 @@
 -- `put_text` meets its contract: the bytes passed are written. Assumes nothing.
 use Prim.Native.Nat.{_≤_, _+_, _-_}
 use mathlib.Core.Path.{refl}
-use lib.ListN.{length, take}
 use native.Mathlib.Omega.{arith}
+use lib.ListN.{length, take}
 use borrow.Author.Needs.{needs}
 use Rattle.numbers.specs.Wrote.{Wrote}
 use Rattle.transcript.proofs.Writing.{wrote-length, wrote-next, wrote-all}

@@ -1,7 +1,7 @@
 -- `show::blocks` is safe and ends: `at` goes up to the length, 8 bytes or more at a time. Assumes nothing.
 use Prim.Native.Nat.{_≤_, _-_}
-use borrow.Author.Needs.{needs}
 use lib.ListN.{length}
+use borrow.Author.Needs.{needs}
 use Rattle.bench_examples.proofs.show.blocks.Statement.{statement}
 use Rattle.bench_examples.proofs.show.blocks.Tie as tie
 

@@ -1,7 +1,7 @@
 -- `show::bytes` is safe and ends: `i` goes up to the length. Assumes nothing.
 use Prim.Native.Nat.{_-_}
-use borrow.Author.Needs.{needs}
 use lib.ListN.{length}
+use borrow.Author.Needs.{needs}
 use Rattle.bench_examples.proofs.show.bytes.Statement.{statement}
 use Rattle.bench_examples.proofs.show.bytes.Tie as tie
 

@@ -1,12 +1,12 @@
 -- `layout::change::grant_at` meets its contract: it writes the headers by which the two block lists differ. Assumes nothing.
 use Prim.Native.Nat.{ℕ, _+_, _-_}
-use native.Mathlib.Omega.{arith}
 use mathlib.Core.Path.{ap, _∙_}
+use native.Mathlib.Omega.{arith}
+use borrow.Author.Needs.{needs}
 use Rattle.model.specs.Blocks.{block}
 use Rattle.model.specs.Bytes.{header}
 use Rattle.layout.specs.Layout.{put}
 use Rattle.layout.proofs.Granting.{Granting, granting}
-use borrow.Author.Needs.{needs}
 use Rattle.layout.proofs.change.grant_at.Statement.{statement}
 use Rattle.layout.proofs.change.grant_at.Tie as tie
 

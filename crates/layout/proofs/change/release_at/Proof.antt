@@ -1,14 +1,14 @@
 -- `layout::change::release_at` meets its contract: one header over the joined blocks, zeros over the others. Assumes nothing.
 use Prim.Native.Nat.{ℕ, _+_, _-_}
-use native.Mathlib.Omega.{arith}
 use mathlib.Core.Path.{_≡_, sym, ap, _∙_}
 use mathlib.Core.Bool.{_||_}
+use native.Mathlib.Omega.{arith}
 use lib.Dec.{leb}
+use borrow.Author.Needs.{needs}
 use Rattle.model.specs.Blocks.{block, fits}
 use Rattle.model.specs.Bytes.{blocksOf, header}
 use Rattle.layout.specs.Layout.{put, Swallowed, swallowOf, swallowed}
 use Rattle.layout.proofs.Releasing.{Releasing, releasing}
-use borrow.Author.Needs.{needs}
 use Rattle.layout.proofs.change.release_at.Statement.{statement}
 use Rattle.layout.proofs.change.release_at.Tie as tie
 

@@ -1,11 +1,11 @@
 -- `layout::change::swallow` meets its contract. Assumes nothing.
-use native.Mathlib.Omega.{arith}
 use mathlib.Core.Path.{refl, sym, _∙_}
+use native.Mathlib.Omega.{arith}
 use borrow.Author.Tests.{eq-eqb, ne-eqb}
+use borrow.Author.Needs.{needs}
 use Rattle.model.specs.Bytes.{headerAt}
 use Rattle.layout.specs.Layout.{swallowed}
 use Rattle.layout.proofs.Releasing.{swallow-end, swallow-live, swallow-free}
-use borrow.Author.Needs.{needs}
 use Rattle.layout.proofs.change.swallow.Statement.{statement}
 use Rattle.layout.proofs.change.swallow.Tie as tie
 

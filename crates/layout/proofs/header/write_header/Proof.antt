@@ -1,10 +1,10 @@
 -- `layout::header::write_header` meets its contract. Assumes nothing.
 use Prim.Native.Nat.{_+_}
 use mathlib.Core.Path.{refl, ap, _∙_}
+use borrow.Author.Needs.{needs}
 use Rattle.model.specs.Bytes.{le32, header}
 use Rattle.layout.specs.Layout.{put}
 use Rattle.layout.proofs.Writing.{put-put}
-use borrow.Author.Needs.{needs}
 use Rattle.layout.proofs.header.write_header.Statement.{statement}
 use Rattle.layout.proofs.header.write_header.Tie as tie
 

@@ -1,9 +1,9 @@
 -- `layout::header::write_u32` meets its contract. Assumes nothing.
 use native.Mathlib.Omega.{arith}
 use lib.ListN.{length-set}
+use borrow.Author.Needs.{needs}
 use Rattle.model.specs.Bytes.{le32}
 use Rattle.layout.proofs.Writing.{put-four}
-use borrow.Author.Needs.{needs}
 use Rattle.layout.proofs.header.write_u32.Statement.{statement}
 use Rattle.layout.proofs.header.write_u32.Tie as tie
 

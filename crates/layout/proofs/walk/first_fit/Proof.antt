@@ -1,13 +1,13 @@
 -- `layout::walk::first_fit` meets its contract. Assumes nothing.
-use native.Mathlib.Omega.{arith}
 use mathlib.Core.Path.{_≡_, sym, ap, _∙_}
-use Rattle.layout.specs.declared.Target.the-variants.{Run}
-use Rattle.layout.specs.Layout.{firstFitOf, walkAt}
+use native.Mathlib.Omega.{arith}
+use borrow.Author.Needs.{needs}
 use Rattle.model.specs.Limits.{longest-pool}
 use Rattle.model.specs.Bytes.{blocksOf}
+use Rattle.layout.specs.declared.Target.the-variants.{Run}
+use Rattle.layout.specs.Layout.{firstFitOf, walkAt}
 use Rattle.layout.proofs.Sound.{open-pool}
 use Rattle.layout.proofs.Surveying.{foundBy, unseen, walk-sought}
-use borrow.Author.Needs.{needs}
 use Rattle.layout.proofs.walk.first_fit.Statement.{statement}
 use Rattle.layout.proofs.walk.first_fit.Tie as tie
 

@@ -1,7 +1,7 @@
 -- `layout::walk::passed` meets its contract. Assumes nothing.
 use native.Mathlib.Omega.{arith}
-use Rattle.layout.proofs.Walking.{pass-live, pass-free}
 use borrow.Author.Needs.{needs}
+use Rattle.layout.proofs.Walking.{pass-live, pass-free}
 use Rattle.layout.proofs.walk.passed.Statement.{statement}
 use Rattle.layout.proofs.walk.passed.Tie as tie
 

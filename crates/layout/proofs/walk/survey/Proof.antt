@@ -1,8 +1,9 @@
 -- `layout::walk::survey` meets its contract: the two calls of the walk tell what the bytes are found to be. Assumes nothing.
 use Prim.Native.Nat.{_+_}
-use native.Mathlib.Omega.{arith}
 use mathlib.Core.Path.{_≡_, sym, _∙_}
+use native.Mathlib.Omega.{arith}
 use lib.ListN.{length}
+use borrow.Author.Needs.{needs}
 use Rattle.model.specs.Limits.{longest-pool}
 use Rattle.model.specs.Bytes.{blocksOf}
 use Rattle.layout.specs.declared.Seen.{Seen}
@@ -11,7 +12,6 @@ use Rattle.layout.specs.declared.Stop.the-variants.{Here, End, Bad}
 use Rattle.layout.specs.Layout.{surveyOf, walkAt, needOf, placeOf}
 use Rattle.layout.proofs.Sound.{Length}
 use Rattle.layout.proofs.Surveying.{resume, reported, unseen, survey-stop, survey-on, stop-sum, refused-uneven, refused-short, refused-long}
-use borrow.Author.Needs.{needs}
 use Rattle.layout.proofs.walk.survey.Statement.{statement}
 use Rattle.layout.proofs.walk.survey.Tie as tie
 

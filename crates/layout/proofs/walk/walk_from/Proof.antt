@@ -1,16 +1,16 @@
 -- `layout::walk::walk_from` meets its contract: the walk from the loop's state on stops as the walk from the start does. Assumes nothing.
 use Prim.Native.Nat.{_-_, _≤_}
-use native.Mathlib.Omega.{arith}
 use mathlib.Core.Path.{_≡_, refl, sym, ap, _∙_}
 use mathlib.Core.Bool.{true}
+use native.Mathlib.Omega.{arith}
 use lib.ListN.{length}
 use borrow.Author.Tests.{not-true, not-false, le-leb, lt-leb, eq-eqb, ne-eqb}
+use borrow.Author.Needs.{needs}
 use Rattle.model.specs.Limits.{most-tasks}
 use Rattle.model.specs.Blocks.{block, okBlock}
 use Rattle.layout.specs.declared.Seen.{Seen}
 use Rattle.layout.specs.Layout.{walkAt}
 use Rattle.layout.proofs.Walking.{open-block, stands-free, stands-live, unfit, doubled, walk-end, walk-short, walk-bad, walk-here, walk-pass, pass-at, pass-sum}
-use borrow.Author.Needs.{needs}
 use Rattle.layout.proofs.walk.walk_from.Statement.{statement}
 use Rattle.layout.proofs.walk.walk_from.Tie as tie
 

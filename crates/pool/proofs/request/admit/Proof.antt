@@ -1,15 +1,15 @@
 -- `pool::request::admit` meets its contract. Assumes nothing.
 use Prim.Native.Nat.{ℕ}
-use native.Mathlib.Omega.{arith}
 use mathlib.Core.Path.{_≡_, sym, ap, _∙_}
+use native.Mathlib.Omega.{arith}
 use lib.ListN.{length}
+use borrow.Author.Needs.{needs}
 use Rattle.model.specs.Limits.{most-tasks}
 use Rattle.model.specs.Blocks.{granted}
 use Rattle.layout.specs.Layout.{changed}
 use Rattle.pool.specs.Steps.{entry}
 use Rattle.pool.proofs.Judging.{fair-held, admit-held, admit-grantable, admit-granted}
 use Rattle.pool.proofs.Inspecting.{length-of-map, place-small}
-use borrow.Author.Needs.{needs}
 use Rattle.pool.proofs.request.admit.Statement.{statement}
 use Rattle.pool.proofs.request.admit.Tie as tie
 

@@ -1,16 +1,16 @@
 -- `pool::request::judge` meets its contract. Assumes nothing.
 use mathlib.Core.Path.{_≡_, sym, ap, _∙_}
+use mathlib.Core.Bool.{true, false}
 use mir.Syntax.{w32}
 use mir.ValLaws.{toZ-ofZ}
-use Rattle.queue.specs.Entries.{limitOf}
-use mathlib.Core.Bool.{true, false}
 use borrow.Author.Tests.{not-true, not-false}
+use borrow.Author.Needs.{needs}
 use Rattle.model.specs.Rules.{okTask, okSize, base}
 use Rattle.model.specs.Places.{used}
-use Rattle.queue.proofs.Time.{limit-asks}
+use Rattle.queue.specs.Entries.{limitOf}
 use Rattle.queue.specs.declared.Limit.the-variants as limit
+use Rattle.queue.proofs.Time.{limit-asks}
 use Rattle.pool.proofs.Judging.{task-refused, size-refused, limit-refused, slot-judged}
-use borrow.Author.Needs.{needs}
 use Rattle.pool.proofs.request.judge.Statement.{statement}
 use Rattle.pool.proofs.request.judge.Tie as tie
 

@@ -1,11 +1,12 @@
 -- `pool::serving::serve` meets its contract. Assumes nothing.
 use Prim.Native.Nat.{_+_, _-_, _≤_, _<_}
-use native.Mathlib.Nat.{add-zero}
-use native.Mathlib.Omega.{arith}
 use mathlib.Core.Path.{_≡_, refl, sym, ap, _∙_}
 use mathlib.Core.Logic.{⊎-elim}
 use mathlib.Core.List.{List, _∷_}
+use native.Mathlib.Nat.{add-zero}
+use native.Mathlib.Omega.{arith}
 use lib.ListN.{length, getD, drop, length-drop}
+use borrow.Author.Needs.{needs}
 use Rattle.model.specs.declared.Answer.{Answer}
 use Rattle.model.specs.declared.Entry.{Entry}
 use Rattle.model.specs.Limits.{most-tasks, e-ok}
@@ -14,14 +15,13 @@ use Rattle.model.specs.Rules.{base}
 use Rattle.model.specs.Calls as calls
 use Rattle.model.specs.Calls.{noOffset}
 use Rattle.model.specs.Places.{noEntry, pad, used}
+use Rattle.model.proofs.Places.{tidy-is}
 use Rattle.layout.specs.declared.Spot.{Spot}
 use Rattle.layout.specs.declared.Found.the-variants as found
 use Rattle.layout.specs.Layout.{Grantable}
 use Rattle.queue.proofs.Places.{used-stop, used-go, used-end, used-drop, used-length}
-use Rattle.model.proofs.Places.{tidy-is}
 use Rattle.pool.proofs.Inspecting.{place-small}
 use Rattle.pool.proofs.Serves.{Loop, loop-starts, Still, loop-answer, loop-out, space, loop-long, loop-none, grantable, loop-on}
-use borrow.Author.Needs.{needs}
 use Rattle.pool.proofs.serving.serve.Statement.{statement}
 use Rattle.pool.proofs.serving.serve.Tie as tie
 

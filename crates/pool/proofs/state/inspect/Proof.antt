@@ -1,19 +1,19 @@
 -- `pool::state::inspect` meets its contract. Assumes nothing.
 use Prim.Native.Nat.{_+_}
-use native.Mathlib.Omega.{arith}
-use lib.ListN.{getD}
-use Rattle.model.specs.Rules.{needOf}
-use Rattle.model.specs.Places.{noEntry}
-use Rattle.layout.proofs.Sound.{open-pool}
 use mathlib.Core.Path.{_≡_, sym, ap, _∙_}
 use mathlib.Core.Bool.{true}
+use native.Mathlib.Omega.{arith}
+use lib.ListN.{getD}
 use borrow.Author.Tests.{not-true, not-false, lt-leb}
+use borrow.Author.Needs.{needs}
+use Rattle.model.specs.Rules.{needOf}
+use Rattle.model.specs.Places.{noEntry}
 use Rattle.model.specs.Bytes.{blocksOf}
 use Rattle.model.specs.Blocks.{greatestFree}
 use Rattle.layout.specs.declared.Surveyed.{Surveyed}
 use Rattle.layout.specs.Layout.{soundPool}
+use Rattle.layout.proofs.Sound.{open-pool}
 use Rattle.pool.proofs.Inspecting.{pool-bad, pool-good, queue-bad, head-none, head-fit, head-waits, greatest-least}
-use borrow.Author.Needs.{needs}
 use Rattle.pool.proofs.state.inspect.Statement.{statement}
 use Rattle.pool.proofs.state.inspect.Tie as tie
 
