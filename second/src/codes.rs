@@ -1,4 +1,5 @@
-//! Codes of the calls, named as in the µITRON 4.0 specification.
+//! Codes of the calls, named as in the µITRON 4.0 specification, and reasons of
+//! a refused release.
 //!
 //! E_SYS (-5) is missing: the state is private to the pool and always sound.
 
@@ -18,3 +19,14 @@ pub const E_OBJ: i32 = -41;
 pub const E_RLWAI: i32 = -49;
 /// Poll failed, or the time limit ran out.
 pub const E_TMOUT: i32 = -50;
+
+/// Reason of every answer but that of a refused release.
+pub const NO_REASON: u32 = 0;
+/// The offset is below 8, or at or past the pool's length.
+pub const OUTSIDE_POOL: u32 = 1;
+/// The offset is not a multiple of 4.
+pub const NOT_ALIGNED: u32 = 2;
+/// The offset is that of a free block.
+pub const FREE_BLOCK: u32 = 3;
+/// The offset is any other spot of a block.
+pub const INSIDE_BLOCK: u32 = 4;

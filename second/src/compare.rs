@@ -1,4 +1,4 @@
-//! Compares a program with the own replay on dealt logs and log files.
+//! Compares a program with an own text on dealt logs and log files.
 
 use std::fs;
 use std::io;
@@ -10,7 +10,7 @@ use std::thread;
 use crate::deal::deal;
 use crate::hex::to_hex;
 use crate::process::{run, Outcome};
-use crate::replay::replay_text;
+use crate::replay::Text;
 
 /// Programs run at once.
 const WORKERS: usize = 2;
@@ -68,8 +68,13 @@ impl Difference {
 }
 
 /// Runs the program on one log and answers the difference, if any.
-pub fn compare_one(program: &Path, index: u64, log: Vec<u8>) -> io::Result<Option<Difference>> {
-    let expected = replay_text(&log);
+fn compare_one(
+    program: &Path,
+    text: Text,
+    index: u64,
+    log: Vec<u8>,
+) -> io::Result<Option<Difference>> {
+    let expected = text(&log);
     let outcome = run(program, &log, expected.len() + MORE)?;
     if outcome.output == expected.as_bytes() && outcome.exited() {
         return Ok(None);
@@ -82,13 +87,14 @@ pub fn compare_one(program: &Path, index: u64, log: Vec<u8>) -> io::Result<Optio
     }))
 }
 
-/// Compares on all logs and answers the difference with the lowest number.
-pub fn compare(program: &Path, logs: &Logs) -> io::Result<Option<Difference>> {
+/// Compares the program's output with the text of each log and answers the
+/// difference with the lowest number.
+pub fn compare(program: &Path, text: Text, logs: &Logs) -> io::Result<Option<Difference>> {
     let next = AtomicU64::new(0);
     let first: Mutex<io::Result<Option<Difference>>> = Mutex::new(Ok(None));
     thread::scope(|scope| {
         for _ in 0..WORKERS {
-            scope.spawn(|| work(program, logs, &next, &first));
+            scope.spawn(|| work(program, text, logs, &next, &first));
         }
     });
     first.into_inner().expect("no thread panicked")
@@ -98,6 +104,7 @@ pub fn compare(program: &Path, logs: &Logs) -> io::Result<Option<Difference>> {
 /// taken before the difference was found is still finished.
 fn work(
     program: &Path,
+    text: Text,
     logs: &Logs,
     next: &AtomicU64,
     first: &Mutex<io::Result<Option<Difference>>>,
@@ -109,7 +116,7 @@ fn work(
         }
         let result = logs
             .log(index)
-            .and_then(|log| compare_one(program, index, log));
+            .and_then(|log| compare_one(program, text, index, log));
         if matches!(result, Ok(None)) {
             continue;
         }

@@ -2,7 +2,7 @@
 
 use std::collections::BTreeMap;
 
-use crate::codes::{E_OK, E_TMOUT};
+use crate::codes::{E_OK, E_TMOUT, INSIDE_BLOCK};
 use crate::log::{Fault, Record};
 use crate::number::NumberFault;
 use crate::pool::{Answer, Pool, MAX_LEN};
@@ -57,7 +57,7 @@ impl Coverage {
             match replay.step() {
                 Step::Done(record, answer) => {
                     self.add_call(record, &answer);
-                    self.add_details(&before, replay.pool(), record, answer.code);
+                    self.add_details(&before, replay.pool(), record, &answer);
                 }
                 Step::End => return self.add("end clean"),
                 Step::Bad(_, fault) => {
@@ -106,19 +106,34 @@ impl Coverage {
     }
 
     /// `before` is the queue before the call, `pool` the pool after it.
-    fn add_details(&mut self, before: &Queue, pool: &Pool, record: Record, code: i32) {
+    fn add_details(&mut self, before: &Queue, pool: &Pool, record: Record, answer: &Answer) {
         match record {
             Record::Get {
                 limit: i32::MAX, ..
             } => self.add("limit field 2^31"),
-            Record::Cancel { task } if code == E_OK => {
+            Record::Cancel { task } if answer.code == E_OK => {
                 let place = before.place(task).map_or(0, |place| place + 1);
                 self.add(format!("cancel at place {place:02}"));
             }
-            Record::Release { offset } if code != E_OK => {
-                self.add(format!("release refused, {}", offset_name(pool, offset)));
+            Record::Release { offset } if answer.code != E_OK => {
+                self.add_refused_release(pool, offset, answer);
             }
             _ => {}
+        }
+    }
+
+    fn add_refused_release(&mut self, pool: &Pool, offset: u32, answer: &Answer) {
+        let reason = format!("release reason {}", answer.reason);
+        if answer.place > 0 {
+            self.add(format!("{reason}, place above 0"));
+        }
+        if answer.reason == INSIDE_BLOCK {
+            let spot = spot_name(pool, offset, answer.place);
+            self.add(format!("{reason}, {spot}"));
+        }
+        self.add(reason);
+        if let Some(edge) = edge_name(pool, offset) {
+            self.add(format!("release refused, offset {edge}"));
         }
     }
 }
@@ -134,18 +149,29 @@ fn call_name(record: Record) -> &'static str {
     }
 }
 
-/// What is wrong with an offset that release refused.
-fn offset_name(pool: &Pool, offset: u32) -> &'static str {
-    if offset < HEADER || offset >= pool.len() {
-        return "outside the pool";
+/// The part of the block at `place` that `offset` lies in.
+fn spot_name(pool: &Pool, offset: u32, place: u32) -> &'static str {
+    let free = pool.runs().free().any(|run| run.start == place);
+    match (offset - place < HEADER, free) {
+        (true, true) => "header of a free block",
+        (true, false) => "header of a live block",
+        (false, true) => "body of a free block",
+        (false, false) => "body of a live block",
     }
-    if !offset.is_multiple_of(4) {
-        return "not a multiple of 4";
-    }
-    if pool.runs().free().any(|run| run.offset() == offset) {
-        return "free block";
-    }
-    "inside a block"
+}
+
+/// The name of an offset next to a limit of the pool.
+fn edge_name(pool: &Pool, offset: u32) -> Option<&'static str> {
+    let len = pool.len();
+    let edges = [
+        (4, "4"),
+        (7, "7"),
+        (len - 4, "N - 4"),
+        (len - 1, "N - 1"),
+        (len, "N"),
+    ];
+    let edge = edges.into_iter().find(|edge| edge.0 == offset);
+    edge.map(|edge| edge.1)
 }
 
 fn start_fault_name(fault: StartFault) -> String {

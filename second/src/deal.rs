@@ -22,6 +22,7 @@ pub fn deal(seed: u64, index: u64) -> Vec<u8> {
 
 fn deal_small(rng: Rng, index: u64) -> Vec<u8> {
     let dealer = match index % 12 {
+        6 if index % 24 == 6 => shapes::refused_releases(rng),
         0 | 6 => shapes::mixed(rng),
         1 | 5 | 9 => return damaged(rng, (3 * (index / 12) + index % 12 / 4) as usize),
         2 => shapes::tiny(rng),

@@ -123,6 +123,19 @@ impl Dealer {
         }
     }
 
+    /// An offset at a limit of the pool or of one of its runs.
+    pub fn edge_offset(&mut self) -> u32 {
+        let len = self.pool.len();
+        if self.rng.chance(40) {
+            return self.rng.pick(&[4, 7, 9, len - 4, len - 1, len, len + 8]);
+        }
+        let runs = self.pool.runs().as_slice();
+        let run = runs[self.rng.index(runs.len())];
+        let (start, end) = (run.start, run.end());
+        let spots = [start, start + 4, start + 7, start + 12, end - 4, end - 1];
+        self.rng.pick(&spots)
+    }
+
     /// A size from 1 to the greatest allowed, often near a limit.
     pub fn size(&mut self) -> u32 {
         let max = self.pool.max_size();

@@ -9,15 +9,17 @@ use second::compare::{compare, Logs};
 use second::coverage::Coverage;
 use second::deal::deal;
 use second::hex::to_hex;
-use second::replay::{replay_text, MAX_LOG};
+use second::replay::{reasons_text, replay_text, Text, MAX_LOG};
 use second::timing::best_times;
 use second::workload::{ticks, workload};
 
 const USAGE: &str = "usage:
   second replay < LOG
+  second reasons < LOG
   second deal SEED COUNT
   second count SEED COUNT
   second compare PROGRAM SEED COUNT [LOG_FILE..]
+  second compare-reasons PROGRAM SEED COUNT [LOG_FILE..]
   second check FOLDER [PROGRAM]
   second workload full|small|waiters|mixed
   second workload ticks BLOCKS WAITERS TICKS
@@ -46,15 +48,12 @@ fn main() -> ExitCode {
 fn run(arguments: &[String]) -> io::Result<Option<ExitCode>> {
     let words: Vec<&str> = arguments.iter().map(String::as_str).collect();
     match words.as_slice() {
-        ["replay"] => replay().map(Some),
+        ["replay"] => write_text(replay_text).map(Some),
+        ["reasons"] => write_text(reasons_text).map(Some),
         ["deal", seed, count] => with_numbers(seed, count, deal_logs),
         ["count", seed, count] => with_numbers(seed, count, count_logs),
-        ["compare", program, seed, count, files @ ..] => {
-            let files: Vec<PathBuf> = files.iter().map(PathBuf::from).collect();
-            with_numbers(seed, count, |seed, count| {
-                compare_logs(Path::new(program), Logs { seed, count, files })
-            })
-        }
+        ["compare", rest @ ..] => compare_with(replay_text, rest),
+        ["compare-reasons", rest @ ..] => compare_with(reasons_text, rest),
         ["check", folder] => check(folder, None).map(Some),
         ["check", folder, program] => check(folder, Some(Path::new(program))).map(Some),
         ["workload", name] => write_log(workload(name)),
@@ -75,15 +74,14 @@ fn with_numbers(
     }
 }
 
-fn replay() -> io::Result<ExitCode> {
+/// Writes the text of the log on standard input.
+fn write_text(text: Text) -> io::Result<ExitCode> {
     let mut log = Vec::new();
     io::stdin()
         .lock()
         .take(MAX_LOG as u64 + 1)
         .read_to_end(&mut log)?;
-    io::stdout()
-        .lock()
-        .write_all(replay_text(&log).as_bytes())?;
+    io::stdout().lock().write_all(text(&log).as_bytes())?;
     Ok(ExitCode::SUCCESS)
 }
 
@@ -112,9 +110,20 @@ fn count_logs(seed: u64, count: u64) -> io::Result<ExitCode> {
     Ok(ExitCode::SUCCESS)
 }
 
-fn compare_logs(program: &Path, logs: Logs) -> io::Result<ExitCode> {
+/// Compares a program with a text; `None` if the arguments are wrong.
+fn compare_with(text: Text, arguments: &[&str]) -> io::Result<Option<ExitCode>> {
+    let [program, seed, count, files @ ..] = arguments else {
+        return Ok(None);
+    };
+    let files: Vec<PathBuf> = files.iter().map(PathBuf::from).collect();
+    with_numbers(seed, count, |seed, count| {
+        compare_logs(Path::new(program), text, Logs { seed, count, files })
+    })
+}
+
+fn compare_logs(program: &Path, text: Text, logs: Logs) -> io::Result<ExitCode> {
     let mut out = io::stdout().lock();
-    if let Some(difference) = compare(program, &logs)? {
+    if let Some(difference) = compare(program, text, &logs)? {
         writeln!(out, "{}", difference.report())?;
         return Ok(ExitCode::FAILURE);
     }

@@ -1,8 +1,8 @@
 //! The pool and its calls.
 
-use crate::codes::{E_CTX, E_ID, E_OBJ, E_OK, E_PAR, E_RLWAI, E_TMOUT, WAITING};
+use crate::codes::{E_CTX, E_ID, E_OBJ, E_OK, E_PAR, E_RLWAI, E_TMOUT, NO_REASON, WAITING};
 use crate::queue::{Queue, Waiter};
-use crate::runs::{Runs, HEADER, MIN_RUN};
+use crate::runs::{Refusal, Runs, HEADER, MIN_RUN};
 
 /// Tasks are numbered from 1 to this.
 pub const MAX_TASK: u32 = 32;
@@ -27,31 +27,43 @@ pub struct Answer {
     pub code: i32,
     pub offset: u32,
     pub woken: Vec<Woken>,
+    /// Why a release was refused, or 0.
+    pub reason: u32,
+    /// Place of the header that the reason speaks of, or 0.
+    pub place: u32,
 }
 
 impl Answer {
-    /// A code alone: offset 0 and nobody woken.
+    /// A code alone: all other numbers are 0, and nobody is woken.
     fn code(code: i32) -> Answer {
         Answer {
             code,
             offset: 0,
             woken: Vec::new(),
+            reason: NO_REASON,
+            place: 0,
         }
     }
 
     fn granted(offset: u32) -> Answer {
         Answer {
-            code: E_OK,
             offset,
-            woken: Vec::new(),
+            ..Answer::code(E_OK)
         }
     }
 
     fn woke(woken: Vec<Woken>) -> Answer {
         Answer {
-            code: E_OK,
-            offset: 0,
             woken,
+            ..Answer::code(E_OK)
+        }
+    }
+
+    fn refused_release(Refusal { reason, place }: Refusal) -> Answer {
+        Answer {
+            reason,
+            place,
+            ..Answer::code(E_PAR)
         }
     }
 }
@@ -139,10 +151,10 @@ impl Pool {
 
     /// Frees the block at `offset`.
     pub fn release(&mut self, offset: u32) -> Answer {
-        if !self.runs.release(offset) {
-            return Answer::code(E_PAR);
+        match self.runs.release(offset) {
+            Ok(()) => Answer::woke(self.serve(Vec::new())),
+            Err(refusal) => Answer::refused_release(refusal),
         }
-        Answer::woke(self.serve(Vec::new()))
     }
 
     /// Ends the wait of a task.

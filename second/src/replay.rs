@@ -9,6 +9,9 @@ use crate::pool::{Answer, Pool};
 /// The greatest length of a log.
 pub const MAX_LOG: usize = 65_536;
 
+/// Makes a text of a log.
+pub type Text = fn(&[u8]) -> String;
+
 /// Why a log cannot be started.
 #[derive(Clone, Copy, Debug, PartialEq, Eq)]
 pub enum StartFault {
@@ -92,6 +95,21 @@ pub fn replay_text(log: &[u8]) -> String {
             Step::Bad(place, _) => break push_line(&mut text, format_args!("bad log at {place}")),
         }
         records += 1;
+    }
+    text
+}
+
+/// A line `reason place` for each record that is carried out.
+pub fn reasons_text(log: &[u8]) -> String {
+    let mut text = String::new();
+    let Ok(mut replay) = Replay::start(log) else {
+        return text;
+    };
+    while let Step::Done(_, answer) = replay.step() {
+        push_line(
+            &mut text,
+            format_args!("{} {}", answer.reason, answer.place),
+        );
     }
     text
 }

@@ -1,5 +1,7 @@
 //! The buffer as an ordered list of runs.
 
+use crate::codes::{FREE_BLOCK, INSIDE_BLOCK, NOT_ALIGNED, OUTSIDE_POOL};
+
 /// Bytes in front of every block.
 pub const HEADER: u32 = 8;
 /// The smallest run.
@@ -26,8 +28,23 @@ impl Run {
         self.owner.is_none()
     }
 
-    fn end(&self) -> u32 {
+    /// Place of the first byte behind the run.
+    pub fn end(&self) -> u32 {
         self.start + self.len
+    }
+}
+
+/// Why an offset is not that of a live block.
+#[derive(Clone, Copy, Debug, PartialEq, Eq)]
+pub struct Refusal {
+    pub reason: u32,
+    /// Place of the header of the block that holds the offset, or 0.
+    pub place: u32,
+}
+
+impl Refusal {
+    fn new(reason: u32, place: u32) -> Refusal {
+        Refusal { reason, place }
     }
 }
 
@@ -84,26 +101,42 @@ impl Runs {
         Some(offset)
     }
 
-    /// Frees the live block at `offset`; false if there is none.
-    pub fn release(&mut self, offset: u32) -> bool {
-        let Some(index) = self.live_index(offset) else {
-            return false;
-        };
+    /// Frees the live block at `offset`.
+    pub fn release(&mut self, offset: u32) -> Result<(), Refusal> {
+        let index = self.live_index(offset)?;
         self.list[index].owner = None;
         self.join_next(index);
         if index > 0 {
             self.join_next(index - 1);
         }
-        true
+        Ok(())
     }
 
-    fn live_index(&self, offset: u32) -> Option<usize> {
-        let start = offset.checked_sub(HEADER)?;
-        let index = self
-            .list
-            .binary_search_by_key(&start, |run| run.start)
-            .ok()?;
-        (!self.list[index].is_free()).then_some(index)
+    /// Index of the live block at `offset`.
+    fn live_index(&self, offset: u32) -> Result<usize, Refusal> {
+        if offset < HEADER || offset >= self.len() {
+            return Err(Refusal::new(OUTSIDE_POOL, 0));
+        }
+        if !offset.is_multiple_of(4) {
+            return Err(Refusal::new(NOT_ALIGNED, 0));
+        }
+        let index = self.holder_index(offset);
+        let run = self.list[index];
+        match (offset == run.offset(), run.is_free()) {
+            (true, false) => Ok(index),
+            (true, true) => Err(Refusal::new(FREE_BLOCK, run.start)),
+            (false, _) => Err(Refusal::new(INSIDE_BLOCK, run.start)),
+        }
+    }
+
+    /// Length of the buffer.
+    fn len(&self) -> u32 {
+        self.list.last().map_or(0, Run::end)
+    }
+
+    /// Index of the run that holds the byte at `place`, below the length.
+    fn holder_index(&self, place: u32) -> usize {
+        self.list.partition_point(|run| run.end() <= place)
     }
 
     /// Joins the run at `index` and the next one if both are free.

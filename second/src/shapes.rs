@@ -32,6 +32,22 @@ pub fn tiny(mut rng: Rng) -> Dealer {
     dealer
 }
 
+/// Releases of wrong offsets on a small pool that changes between them.
+pub fn refused_releases(mut rng: Rng) -> Dealer {
+    let len = length(&mut rng, 12, 400);
+    let rounds = rng.between(10, 40);
+    let mut dealer = Dealer::new(rng, len);
+    for _ in 0..rounds {
+        dealer.put_many(3);
+        for _ in 0..3 {
+            let (edge, wrong) = (dealer.edge_offset(), dealer.wrong_offset());
+            dealer.release(edge);
+            dealer.release(wrong);
+        }
+    }
+    dealer
+}
+
 /// Grants that leave a rest of 0, 4, 8, 12 and 16 bytes, at the end of the
 /// pool and in front of a live block.
 pub fn rests(mut rng: Rng) -> Dealer {

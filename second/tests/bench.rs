@@ -2,7 +2,7 @@
 
 mod common;
 
-use common::{answer, blocks, waiting, woke};
+use common::{answer, blocks, refused, waiting, woke};
 use second::pool::{Inquiry, Pool, FOREVER};
 
 fn create(len: u32) -> Pool {
@@ -100,11 +100,11 @@ fn example_i() {
 #[test]
 fn example_j() {
     let mut pool = after_c();
-    assert_eq!(pool.release(12), answer(-17, 0));
+    assert_eq!(pool.release(12), refused(4, 0));
     assert_eq!(pool, after_c());
     assert_eq!(pool.release(8), woke(&[]));
     let before = pool.clone();
-    assert_eq!(pool.release(8), answer(-17, 0));
+    assert_eq!(pool.release(8), refused(3, 0));
     assert_eq!(pool, before);
 }
 

@@ -35,9 +35,8 @@ impl Cells {
 
     fn take(&mut self, task: u32, size: u32) -> Option<u32> {
         let need = (size as usize).div_ceil(4) + 2;
-        let start_of_run = |place: usize| place == 0 || self.cells[place - 1] != FREE;
         let mut places = 0..self.cells.len();
-        let place = places.find(|&p| start_of_run(p) && self.free_from(p) >= need)?;
+        let place = places.find(|&p| !self.continues(p) && self.free_from(p) >= need)?;
         let run = self.free_from(place);
         let len = if run - need >= 3 { need } else { run };
         self.cells[place..place + len].fill(REST);
@@ -58,9 +57,8 @@ impl Cells {
             });
         }
         Answer {
-            code: 0,
-            offset: 0,
             woken,
+            ..common::answer(0, 0)
         }
     }
 
@@ -93,11 +91,36 @@ impl Cells {
         }
     }
 
+    /// False if a cell is the first of its block or free run.
+    fn continues(&self, place: usize) -> bool {
+        match self.cells[place] {
+            FREE => place > 0 && self.cells[place - 1] == FREE,
+            cell => cell == REST,
+        }
+    }
+
+    /// First cell of the block or free run that holds a cell.
+    fn first_cell(&self, mut place: usize) -> usize {
+        while self.continues(place) {
+            place -= 1;
+        }
+        place
+    }
+
     fn release(&mut self, offset: u32) -> Answer {
-        let place = (offset as usize / 4).wrapping_sub(2);
-        let first = self.cells.get(place).copied().unwrap_or(FREE);
-        if !offset.is_multiple_of(4) || first == FREE || first == REST {
-            return common::answer(-17, 0);
+        if offset < 8 || offset as usize >= 4 * self.cells.len() {
+            return common::refused(1, 0);
+        }
+        if !offset.is_multiple_of(4) {
+            return common::refused(2, 0);
+        }
+        let cell = offset as usize / 4;
+        let place = self.first_cell(cell);
+        if place + 2 != cell {
+            return common::refused(4, 4 * place as u32);
+        }
+        if self.cells[place] == FREE {
+            return common::refused(3, 4 * place as u32);
         }
         self.cells[place] = FREE;
         let rest = self.cells[place + 1..]

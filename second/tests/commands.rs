@@ -1,14 +1,14 @@
 //! The commands as a user starts them. One test only: scripts are written and
 //! started, which must not happen from several threads at once.
 
-use std::fs;
+use std::fs::{self, File};
 use std::os::unix::fs::PermissionsExt;
 use std::path::{Path, PathBuf};
 use std::process::{Command, Output};
 
 use second::deal::deal;
-use second::hex::to_hex;
-use second::replay::replay_text;
+use second::hex::{from_hex, to_hex};
+use second::replay::{reasons_text, replay_text};
 use second::workload::{workload, WORKLOADS};
 
 const SECOND: &str = env!("CARGO_BIN_EXE_second");
@@ -45,6 +45,46 @@ fn compare_equal(folder: &Path) {
     let output = second(&["compare", &good, "1", "150", &extra.display().to_string()]);
     assert_eq!(stdout(&output), "151 passed, 0 failed\n");
     assert_eq!(output.status.code(), Some(0));
+}
+
+/// The output of a command with a log on its standard input.
+fn on_log(command: &str, log: &Path) -> String {
+    let output = Command::new(SECOND)
+        .arg(command)
+        .stdin(File::open(log).expect("log opened"))
+        .output()
+        .expect("the program starts");
+    assert_eq!(output.status.code(), Some(0));
+    stdout(&output)
+}
+
+/// Example c of the specification, then releases of 0, 9, 12, 56 and 8.
+fn texts_of_a_log(folder: &Path) {
+    let path = folder.join("releases.log");
+    let hex = "40 01 01 0A 00 01 02 14 00 03 00 03 09 03 0C 03 38 03 08";
+    fs::write(&path, from_hex(hex).expect("hex digits")).expect("log written");
+    let replay = "pool 64\n0 8\n0 28\n-17 0\n-17 0\n-17 0\n-17 0\n0 0\nend 7 records\n";
+    assert_eq!(on_log("replay", &path), replay);
+    let reasons = "0 0\n0 0\n1 0\n2 0\n4 0\n3 48\n0 0\n";
+    assert_eq!(on_log("reasons", &path), reasons);
+    assert_eq!(second(&["reasons", "1"]).status.code(), Some(2));
+}
+
+fn compare_reasons(folder: &Path) {
+    let good = script(folder, "reasons", &format!("exec '{SECOND}' reasons"));
+    let file = folder.join("releases.log").display().to_string();
+    let output = second(&["compare-reasons", &good, "1", "150", &file]);
+    assert_eq!(stdout(&output), "151 passed, 0 failed\n");
+    assert_eq!(output.status.code(), Some(0));
+    let body = format!("'{SECOND}' reasons | sed 's/^3 .*/3 0/'");
+    let bad = script(folder, "no_place", &body);
+    let output = second(&["compare-reasons", &bad, "1", "0", &file]);
+    assert_eq!(output.status.code(), Some(1));
+    let report = stdout(&output);
+    assert!(report.starts_with("log 0 differs at line 6 "), "{report}");
+    let log = fs::read(&file).expect("log read");
+    assert!(report.contains(&to_hex(&log)) && report.contains(&reasons_text(&log)));
+    assert_eq!(second(&["compare-reasons", &good]).status.code(), Some(2));
 }
 
 fn compare_different(folder: &Path) {
@@ -170,6 +210,8 @@ fn commands() {
     compare_equal(&folder);
     compare_different(&folder);
     compare_other_faults(&folder);
+    texts_of_a_log(&folder);
+    compare_reasons(&folder);
     check_stored(&folder);
     deal_and_count();
     workloads();

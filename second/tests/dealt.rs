@@ -39,10 +39,17 @@ const NAMES: &[&str] = &[
     "cancel serves",
     "tick serves",
     "tick with several expiries",
-    "release refused, outside the pool",
-    "release refused, not a multiple of 4",
-    "release refused, free block",
-    "release refused, inside a block",
+    "release reason 3, place above 0",
+    "release reason 4, place above 0",
+    "release reason 4, header of a live block",
+    "release reason 4, header of a free block",
+    "release reason 4, body of a live block",
+    "release reason 4, body of a free block",
+    "release refused, offset 4",
+    "release refused, offset 7",
+    "release refused, offset N - 4",
+    "release refused, offset N - 1",
+    "release refused, offset N",
     "queue of 31",
     "queue of 32",
     "pool of 12 bytes",
@@ -71,6 +78,10 @@ fn assert_reaches_all(seed: u64) {
     for place in 1..=32 {
         let name = format!("cancel at place {place:02}");
         assert!(coverage.count(&name) > 0, "seed {seed} misses {name}");
+    }
+    for reason in 1..=4 {
+        let name = format!("release reason {reason}");
+        assert!(coverage.count(&name) >= 100, "seed {seed}: {name}");
     }
     for (name, least) in [
         ("live blocks", 2_000),

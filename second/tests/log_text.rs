@@ -1,9 +1,9 @@
-//! Number forms, records, and the text of every sort of log.
+//! Number forms, records, and the texts of every sort of log.
 
 use second::hex::{from_hex, to_hex};
 use second::log::{read_record, write_record, Fault, Reading, Record};
 use second::number::{read_number, write_number, NumberFault};
-use second::replay::{replay_text, MAX_LOG};
+use second::replay::{reasons_text, replay_text, MAX_LOG};
 
 fn bytes(hex: &str) -> Vec<u8> {
     from_hex(hex).expect("hex digits")
@@ -16,6 +16,16 @@ fn number(hex: &str) -> Result<(u32, usize), NumberFault> {
 fn text(hex: &str) -> String {
     replay_text(&bytes(hex))
 }
+
+fn reasons(hex: &str) -> String {
+    reasons_text(&bytes(hex))
+}
+
+/// The log of the specification: 64 bytes, two gets, a poll, a release, a get
+/// that waits and a release that serves it.
+const SPECIFIED: &str = "40 01 01 0A 00 01 02 14 00 02 05 0C 03 08 01 03 18 00 03 1C";
+/// Places of its records, and its end.
+const STARTS: [usize; 7] = [1, 5, 9, 12, 14, 18, 20];
 
 #[test]
 fn numbers_read() {
@@ -132,26 +142,26 @@ fn kinds() {
 
 #[test]
 fn specified_log() {
-    let log = "40 01 01 0A 00 01 02 14 00 02 05 0C 03 08 01 03 18 00 03 1C";
     let expected = "pool 64\n0 8\n0 28\n-50 0\n0 0\n1 0\n0 0\nw 3 0 8\nend 6 records\n";
-    assert_eq!(text(log), expected);
+    assert_eq!(text(SPECIFIED), expected);
+    assert_eq!(reasons(SPECIFIED), "0 0\n".repeat(6));
 }
 
 #[test]
 fn specified_log_cut_off_at_every_place() {
-    let log = bytes("40 01 01 0A 00 01 02 14 00 02 05 0C 03 08 01 03 18 00 03 1C");
-    let starts = [1, 5, 9, 12, 14, 18, 20];
+    let log = bytes(SPECIFIED);
     let whole = replay_text(&log);
     let lines: Vec<&str> = whole.lines().collect();
     for len in 1..log.len() {
-        let done = starts.iter().filter(|&&start| start <= len).count() - 1;
+        let done = STARTS.iter().filter(|&&start| start <= len).count() - 1;
         let mut expected = lines[..=done].join("\n");
-        if starts[done] == len {
+        if STARTS[done] == len {
             expected += &format!("\nend {done} records\n");
         } else {
-            expected += &format!("\nbad log at {}\n", starts[done]);
+            expected += &format!("\nbad log at {}\n", STARTS[done]);
         }
         assert_eq!(replay_text(&log[..len]), expected, "first {len} bytes");
+        assert_eq!(reasons_text(&log[..len]), "0 0\n".repeat(done));
     }
 }
 
@@ -174,6 +184,7 @@ fn unreadable_length() {
         "80 00 05",
     ] {
         assert_eq!(text(hex), "bad log at 0\n", "{hex}");
+        assert_eq!(reasons(hex), "", "{hex}");
     }
 }
 
@@ -190,6 +201,7 @@ fn refused_length() {
         "00 80",
     ] {
         assert_eq!(text(hex), "pool refused -17\n", "{hex}");
+        assert_eq!(reasons(hex), "", "{hex}");
     }
 }
 
@@ -209,7 +221,9 @@ fn bad_records() {
     ] {
         let answers = "0 0\n".repeat(place - 1);
         let expected = format!("pool 64\n{answers}bad log at {place}\n");
-        assert_eq!(text(&format!("40 {tail}")), expected, "{tail}");
+        let log = format!("40 {tail}");
+        assert_eq!(text(&log), expected, "{tail}");
+        assert_eq!(reasons(&log), answers, "{tail}");
     }
 }
 
@@ -236,11 +250,47 @@ fn length_of_a_log() {
     log[0] = 0x40;
     let expected = format!("pool 64\n{}end 65535 records\n", "0 0\n".repeat(65_535));
     assert_eq!(replay_text(&log), expected);
+    assert_eq!(reasons_text(&log), "0 0\n".repeat(65_535));
     log.push(5);
     assert_eq!(replay_text(&log), "log too long\n");
+    assert_eq!(reasons_text(&log), "");
     assert_eq!(replay_text(&vec![0x80; MAX_LOG]), "bad log at 0\n");
     assert_eq!(replay_text(&vec![0x80; MAX_LOG + 1]), "log too long\n");
     assert_eq!(replay_text(&vec![0; MAX_LOG + 1]), "log too long\n");
+}
+
+/// After the gets of example c: a refusal of each reason, and the same text of
+/// answers for all of them.
+#[test]
+fn reasons_of_refused_releases() {
+    let gets = "40 01 01 0A 00 01 02 14 00";
+    for (release, reason) in [
+        ("03 00", "1 0"),
+        ("03 07", "1 0"),
+        ("03 40", "1 0"),
+        ("03 FF FF FF FF 0F", "1 0"),
+        ("03 09", "2 0"),
+        ("03 38", "3 48"),
+        ("03 0C", "4 0"),
+        ("03 14", "4 20"),
+        ("03 2C", "4 20"),
+        ("03 3C", "4 48"),
+    ] {
+        let log = format!("{gets} {release} 05");
+        let expected = "pool 64\n0 8\n0 28\n-17 0\n0 0\nend 4 records\n";
+        assert_eq!(text(&log), expected, "{release}");
+        let expected = format!("0 0\n0 0\n{reason}\n0 0\n");
+        assert_eq!(reasons(&log), expected, "{release}");
+        let expected = format!("0 0\n0 0\n{reason}\n");
+        assert_eq!(reasons(&format!("{gets} {release} 06")), expected);
+    }
+}
+
+/// Example j, the second release of 8 and releases on what is left.
+#[test]
+fn reasons_of_example_j() {
+    let log = "40 01 01 0A 00 01 02 14 00 03 0C 03 08 03 08 03 1C 03 1C";
+    assert_eq!(reasons(log), "0 0\n0 0\n4 0\n0 0\n3 0\n0 0\n4 0\n");
 }
 
 #[test]

@@ -1,17 +1,16 @@
 -- The bytes after a release are those of the freed block list. Assumes nothing.
 use Prim.Native.Nat.{ℕ, _+_, _-_, _≤_, _<_}
 use mathlib.Core.Path.{_≡_, refl, sym, ap, _∙_}
-use mathlib.Core.Bool.{Bool, true, false, not, cond, _&&_, _||_, and-true}
+use mathlib.Core.Bool.{Bool, true, false, cond, _&&_, _||_, and-true}
 use mathlib.Core.List.{List, [], _∷_, _++_, append-assoc, append-nil}
 use mathlib.Core.Option.{Option, none}
 use native.Mathlib.Omega.{arith}
-use native.Mathlib.Nat.{zero-add, add-zero, sub-zero}
+use native.Mathlib.Nat.{zero-add, add-zero}
 use lib.ListN.{length, drop, replicate, length-append, length-replicate}
 use lib.Dec.{leb, eqb}
-use borrow.Author.Tests.{leb-true, leb-false, lt-leb, eqb-true, eqb-false, le-leb, eq-eqb, ne-eqb, lt-ltb, le-ltb}
-use Rattle.model.specs.declared.HeaderPlace.{HeaderPlace}
+use borrow.Author.Tests.{leb-true, leb-false, lt-leb, eqb-true, eqb-false, eq-eqb, ne-eqb, lt-ltb, le-ltb}
 use Rattle.model.specs.Limits.{most-tasks}
-use Rattle.model.specs.Blocks.{Block, block, isFree, total, tiled, holds, fits, liveAt, join, freed}
+use Rattle.model.specs.Blocks.{Block, block, isFree, total, tiled, holds, fits, startsAt, liveAt, join, freed}
 use Rattle.model.specs.Bytes.{u32At, headerAt, blocksOf, le32, header, blank, overlay, written, mask, render, erase}
 use Rattle.model.proofs.Tests.{by, clash, and-l, and-r, and-f-r, not-t}
 use Rattle.model.proofs.Blocks.{tile}
@@ -68,13 +67,14 @@ pub record Around (p : ℕ) (bs : List Block) : Type 0 where
   pub post : List Block
   pub is : bs ≡ pre ++ (lead ++ (b ∷ (tail ++ post)))
   pub place : p ≡ total pre + total lead
+  pub least : 12 ≤ b .size
   pub live : isFree b ≡ false
   pub lead-free : FreeOne lead
   pub tail-free : FreeOne tail
   pub next : tail ≡ [] → LiveFirst post
   pub after : freed p bs ≡ pre ++ (block (total lead + (b .size + total tail)) 0 ∷ post)
-  -- where the walk finds it, from a place `at` on, where the free bytes that end there begin at `free`
-  pub spot : (at free : ℕ) → seek (sought (target.Block (record { 0 = at + p }))) at free bs
+  -- where the walk finds it by any byte i of it, from a place `at` on, where the free bytes that end there begin at `free`
+  pub spot : (i at free : ℕ) → p ≤ i → i < p + b .size → seek (sought (target.Holder (record { 0 = at + i }))) at free bs
       ≡ found.At (record { place = record { 0 = at + p }; free = record { 0 = cond (eqb p 0) free (at + total pre) } })
 
 join-live : (b : Block) (bs : List Block) → isFree b ≡ false → join b bs ≡ b ∷ bs
@@ -88,23 +88,23 @@ join-apart b [] e = refl
 join-apart b (c ∷ bs) e = rw e
 
 -- found at the first block
-head-spot : (b : Block) (bs : List Block) (at free p : ℕ) → p ≡ 0 → isFree b ≡ false
-    → seek (sought (target.Block (record { 0 = at + p }))) at free (b ∷ bs) ≡ found.At (record { place = record { 0 = at + p }; free = record { 0 = free } })
+head-spot : (b : Block) (bs : List Block) (i at free : ℕ) → i < b .size
+    → seek (sought (target.Holder (record { 0 = at + i }))) at free (b ∷ bs) ≡ found.At (record { place = record { 0 = at }; free = record { 0 = free } })
 unfolding seek
-head-spot b bs at free p e l =
-    let k : at + p ≡ at = omega arith in
-    rw (l, k, eq-eqb at at refl)
+head-spot b bs i at free h = rw (lt-ltb (at + i) (at + b .size) (omega arith))
 
 -- passed by
-pass-spot : (c : Block) (bs : List Block) (at free p : ℕ) → (p ≡ 0 → ⊥)
-    → seek (sought (target.Block (record { 0 = at + p }))) at free (c ∷ bs)
-    ≡ seek (sought (target.Block (record { 0 = at + p }))) (at + c .size) (cond (isFree c) at (at + c .size)) bs
+pass-spot : (c : Block) (bs : List Block) (i at free : ℕ) → c .size ≤ i
+    → seek (sought (target.Holder (record { 0 = at + i }))) at free (c ∷ bs)
+    ≡ seek (sought (target.Holder (record { 0 = at + c .size + (i - c .size) }))) (at + c .size) (cond (isFree c) at (at + c .size)) bs
 unfolding seek
-pass-spot c bs at free p ne = rw (ne-eqb at (at + p) (λ e. ne (omega arith)))
+pass-spot c bs i at free h =
+    let k : at + c .size + (i - c .size) ≡ at + i = omega arith in
+    rw (k, le-ltb (at + i) (at + c .size) (omega arith))
 
-head-around : (b : Block) (rest : List Block) → isFree b ≡ false → Around 0 (b ∷ rest)
+head-around : (b : Block) (rest : List Block) → 12 ≤ b .size → isFree b ≡ false → Around 0 (b ∷ rest)
 unfolding freed total
-head-around b rest l =
+head-around b rest m l =
     let r = behind (b .size) rest in
     record {
       pre = [];
@@ -114,26 +114,25 @@ head-around b rest l =
       post = r .post;
       is = ap (λ (x : List Block). b ∷ x) (r .is);
       place = refl;
+      least = m;
       live = l;
       lead-free = no-one;
       tail-free = r .tail-free;
       next = r .next;
       after = r .after ∙ ap (λ (k : ℕ). block k 0 ∷ r .post) (sym (zero-add (b .size + total (r .tail))));
-      spot = λ at free. head-spot b rest at free 0 refl l;
+      spot = λ i at free x y. head-spot b rest i at free (omega arith) ∙ rw (add-zero at);
     }
 
 -- behind one block
-second-around : (p : ℕ) (c b : Block) (rest : List Block) → isFree b ≡ false → p ≡ c .size → 0 < c .size → Around p (c ∷ b ∷ rest)
+second-around : (p : ℕ) (c b : Block) (rest : List Block) → 12 ≤ b .size → isFree b ≡ false → p ≡ c .size → 0 < c .size → Around p (c ∷ b ∷ rest)
 unfolding freed total join
-second-around p c b rest l e h =
+second-around p c b rest m l e h =
     let r = behind (b .size) rest in
     let z : eqb p 0 ≡ false = ne-eqb p 0 (omega arith) in
     let d : eqb (p - c .size) 0 ≡ true = eq-eqb (p - c .size) 0 (omega arith) in
-    let found-there : (at free : ℕ) → seek (sought (target.Block (record { 0 = at + p }))) at free (c ∷ b ∷ rest)
+    let found-there : (i at free : ℕ) → p ≤ i → i < p + b .size → seek (sought (target.Holder (record { 0 = at + i }))) at free (c ∷ b ∷ rest)
     ≡ found.At (record { place = record { 0 = at + p }; free = record { 0 = cond (isFree c) at (at + c .size) } }) =
-    λ at free. pass-spot c (b ∷ rest) at free p (omega arith)
-    ∙ ap (λ (k : ℕ). seek (sought (target.Block (record { 0 = at + p }))) k (cond (isFree c) at (at + c .size)) (b ∷ rest)) (ap (λ (k : ℕ). at + k) (sym e) ∙ sym (add-zero (at + p)) ∙ add-zero (at + p))
-    ∙ here-spot b rest (at + p) (cond (isFree c) at (at + c .size)) l in
+    λ i at free x y. pass-spot c (b ∷ rest) i at free (omega arith) ∙ head-spot b rest (i - c .size) (at + c .size) (cond (isFree c) at (at + c .size)) (omega arith) ∙ rw e in
     by (isFree c)
     (λ f. record {
       pre = [];
@@ -143,12 +142,13 @@ second-around p c b rest l e h =
       post = r .post;
       is = ap (λ (x : List Block). c ∷ b ∷ x) (r .is);
       place = omega arith;
+      least = m;
       live = l;
       lead-free = one c f;
       tail-free = r .tail-free;
       next = r .next;
       after = rw (z, d, r .after) (rw f (ap (λ (k : ℕ). block k 0 ∷ r .post) (omega arith)));
-      spot = λ at free. found-there at free ∙ rw (f, z, add-zero at);
+      spot = λ i at free x y. found-there i at free x y ∙ rw (f, z, add-zero at);
     })
     (λ f. record {
       pre = c ∷ [];
@@ -158,17 +158,14 @@ second-around p c b rest l e h =
       post = r .post;
       is = ap (λ (x : List Block). c ∷ b ∷ x) (r .is);
       place = omega arith;
+      least = m;
       live = l;
       lead-free = no-one;
       tail-free = r .tail-free;
       next = r .next;
       after = rw (z, d, r .after) (rw f (ap (λ (k : ℕ). c ∷ block k 0 ∷ r .post) (sym (zero-add (b .size + total (r .tail))))));
-      spot = λ at free. found-there at free ∙ rw (f, z, add-zero (c .size));
+      spot = λ i at free x y. found-there i at free x y ∙ rw (f, z, add-zero (c .size));
     })
-  where
-    here-spot : (b : Block) (bs : List Block) (at free : ℕ) → isFree b ≡ false
-        → seek (sought (target.Block (record { 0 = at }))) at free (b ∷ bs) ≡ found.At (record { place = record { 0 = at }; free = record { 0 = free } })
-    here-spot b bs at free l = rw (add-zero at) at (head-spot b bs at free 0 refl l)
 
 -- the first of the blocks that a free one stands before is live, also after a release behind it
 first-live : (p : ℕ) (bs : List Block) (r : Around p bs) → (p ≡ 0 → ⊥) → LiveFirst bs → LiveFirst (r .pre ++ (block (total (r .lead) + (r .b .size + total (r .tail))) 0 ∷ r .post))
@@ -181,10 +178,10 @@ first-live p bs r ne h = go (r .pre) (r .lead) (r .lead-free) (r .is) (r .place)
     go [] (f ∷ []) (one f′ k) e q = clash (isFree f) k (rw e at h)
     go (d ∷ pre) lead k e q = rw e at h
 
-second : (p : ℕ) (c : Block) (bs : List Block) → liveAt 0 bs ≡ true → p ≡ c .size → 0 < c .size → Around p (c ∷ bs)
-unfolding liveAt
-second p c [] h e k = clash false h refl
-second p c (b ∷ rest) h e k = second-around p c b rest (not-t (isFree b) h) e k
+second : (tasks : ℕ) (q : Bool) (p : ℕ) (c : Block) (bs : List Block) → tiled tasks q bs ≡ true → liveAt 0 bs ≡ true → p ≡ c .size → 0 < c .size → Around p (c ∷ bs)
+unfolding startsAt
+second tasks q p c [] t h e k = clash false h refl
+second tasks q p c (b ∷ rest) t h e k = second-around p c b rest (tile tasks q b rest t .least) (not-t (isFree b) h) e k
 
 tiled-first : (tasks : ℕ) (bs : List Block) → tiled tasks true bs ≡ true → LiveFirst bs
 unfolding LiveFirst
@@ -206,30 +203,31 @@ deeper p c bs r h f =
       post = r .post;
       is = ap (λ (x : List Block). c ∷ x) (r .is);
       place = omega (arith, r .place);
+      least = r .least;
       live = r .live;
       lead-free = r .lead-free;
       tail-free = r .tail-free;
       next = r .next;
       after = rw (z, r .after) (by (isFree c) (λ g. join-apart c news (first-live (p - c .size) bs r (omega arith) (f g))) (λ g. join-live c news g));
-      spot = λ at free.
+      spot = λ i at free x y.
           let k : at + c .size + (p - c .size) ≡ at + p = omega arith in
-          let s = r .spot (at + c .size) (cond (isFree c) at (at + c .size)) in
+          let s = r .spot (i - c .size) (at + c .size) (cond (isFree c) at (at + c .size)) (omega arith) (omega arith) in
           let m : at + c .size + total (r .pre) ≡ at + (c .size + total (r .pre)) = omega arith in
-          pass-spot c bs at free p (omega arith) ∙ (rw (k, d, m) at s) ∙ rw z;
+          pass-spot c bs i at free (omega arith) ∙ s ∙ rw (k, d, m, z);
     }
 
 pub around : (tasks : ℕ) (q : Bool) (p : ℕ) (bs : List Block) → tiled tasks q bs ≡ true → liveAt p bs ≡ true → Around p bs
-unfolding liveAt
+unfolding startsAt
 around tasks q p [] t h = clash false h refl
 around tasks q p (c ∷ bs) t h =
     let o = tile tasks q c bs t in
     by (eqb p 0)
-    (λ z. rw (eqb-true p 0 z) (head-around c bs (not-t (isFree c) (rw z at h))))
+    (λ z. rw (eqb-true p 0 z) (head-around c bs (o .least) (not-t (isFree c) (rw z at h))))
     (λ z. let h2 : leb (c .size) p && liveAt (p - c .size) bs ≡ true = rw z at h in
     let k = leb-true (c .size) p (and-l (leb (c .size) p) (liveAt (p - c .size) bs) h2) in
     let lv = and-r (leb (c .size) p) (liveAt (p - c .size) bs) h2 in
     by (eqb (p - c .size) 0)
-    (λ d. let e = eqb-true (p - c .size) 0 d in second p c bs (rw e at lv) (omega arith) (omega (arith, o .least)))
+    (λ d. let e = eqb-true (p - c .size) 0 d in second tasks (isFree c) p c bs (o .rest) (rw e at lv) (omega arith) (omega (arith, o .least)))
     (λ d. let e = eqb-false (p - c .size) 0 d in
     let r = around tasks (isFree c) (p - c .size) bs (o .rest) lv in
     deeper p c bs r (omega arith) (λ f. tiled-first tasks bs (rw f at (o .rest)))))
@@ -335,25 +333,6 @@ module _ (l : List ℕ) (pre post : List Block) (b : Block) (rp : Roomy pre) (hb
       put-header (total pre) m x (mask header pre) (mask blank rest ++ mask header post) l front
       ∙ ap (λ (y : List (Option ℕ)). overlay y l) (sym (released-mask pre post m x rest rp h r e))
       ∙ sym (overlay-overlay (mask header (pre ++ (m ∷ post))) (mask blank (pre ++ ((x ∷ rest) ++ post))) l)
-
--- what the walk finds is a live block
-seek-live : (tasks : ℕ) (q : Bool) (x : HeaderPlace) (bs : List Block) (at free : ℕ) (s : Spot) → tiled tasks q bs ≡ true
-    → seek (sought (target.Block x)) at free bs ≡ found.At s → (at ≤ x .0) × (liveAt (x .0 - at) bs ≡ true)
-unfolding seek liveAt
-seek-live tasks q x [] at free s t e = absurd (let z : _≡_ {A = ℕ} 0 1 = cc in omega arith)
-seek-live tasks q x (c ∷ bs) at free s t e =
-    let o = tile tasks q c bs t in
-    by (eqb at (x .0) && not (isFree c))
-    (λ h. let k = eqb-true at (x .0) (and-l (eqb at (x .0)) (not (isFree c)) h) in
-    (omega arith, rw (eq-eqb (x .0 - at) 0 (omega arith)) (and-r (eqb at (x .0)) (not (isFree c)) h)))
-    (λ h. let r = seek-live tasks (isFree c) x bs (at + c .size) (cond (isFree c) at (at + c .size)) s (o .rest) (rw h at e) in
-    let d : x .0 - at - c .size ≡ x .0 - (at + c .size) = omega arith in (
-      omega (arith, r .0),
-      rw (ne-eqb (x .0 - at) 0 (omega (arith, r .0, o .least)), le-leb (c .size) (x .0 - at) (omega (arith, r .0)), d) (r .1),
-    ))
-
-pub found-live : (tasks : ℕ) (x : HeaderPlace) (bs : List Block) (s : Spot) → tiled tasks false bs ≡ true → seek (sought (target.Block x)) 0 0 bs ≡ found.At s → liveAt (x .0) bs ≡ true
-found-live tasks x bs s t e = rw (sub-zero (x .0)) at (seek-live tasks false x bs 0 0 s t e .1)
 
 pub record Releasing (l : List ℕ) (p y : ℕ) : Type 0 where
   pub size : ℕ
@@ -518,14 +497,14 @@ releasing l s w g =
     let o = open-pool l (g .pool) in
     let bs = blocksOf l in
     let p = s .place .0 in
-    let r = around most-tasks false p bs (o .tiling) (found-live most-tasks (s .place) bs s (o .tiling) (g .live)) in
+    let r = around most-tasks false p bs (o .tiling) (g .live) in
     let pre = r .pre in
     let roomy = tiled-roomy most-tasks false bs (o .tiling) in
     let e : bs ≡ (pre ++ r .lead) ++ (r .b ∷ (r .tail ++ r .post)) = r .is ∙ sym (append-assoc pre (r .lead) (r .b ∷ (r .tail ++ r .post))) in
     let k = located l p (pre ++ r .lead) (r .b) (r .tail) (r .post) e (r .place ∙ sym (total-append pre (r .lead))) (r .tail-free) (r .next) roomy (o .sums) in
     let own = render-blocks most-tasks l (o .tiling) (o .sums) w in
     let d = left l p pre (r .b) (r .tail) (r .post) (r .tail-free) roomy own k (r .lead) (r .lead-free) (r .is) (r .place) (r .after) in
-    let y : s .free .0 ≡ total pre = spot-free p (total pre) (total (r .lead)) s (r .place) (sym (g .live) ∙ rw (zero-add p) at (r .spot 0 0)) in
+    let y : s .free .0 ≡ total pre = spot-free p (total pre) (total (r .lead)) s (r .place) (sym (g .found) ∙ rw (zero-add p, zero-add (p + 8)) at (r .spot (p + 8) 0 0 (omega arith) (omega (arith, r .least)))) in
     rw y (record {
       size = r .b .size;
       read = k .read;

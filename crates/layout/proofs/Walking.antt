@@ -15,7 +15,7 @@ use Rattle.model.proofs.Tests.{by, and-l, and-r, and-i, and-f-r}
 use Rattle.model.proofs.Bytes.{first-at, blocks-at, blocks-end}
 use Rattle.layout.specs.declared.Seen.{Seen}
 use Rattle.layout.specs.declared.Stop.the-variants.{Here, End, Bad}
-use Rattle.layout.specs.Layout.{pass, behind, wanted, stands, walk, walkAt}
+use Rattle.layout.specs.Layout.{pass, behind, wanted, mayStand, stands, walk, walkAt}
 
 -- ---- a header that may stand in a pool
 
@@ -36,51 +36,39 @@ module _ (n : ℕ) (v : Seen) (b : Block) where
   pub record Standing : Type 0 where
     pub ahead : v .at + 12 ≤ n
     pub fit : okBlock most-tasks b ≡ true
-    pub apart : not (isFree b && behind v) ≡ true
 
   pub open-stands : stands n v b ≡ true → Standing
   open-stands h =
       let x = leb (v .at + 12) n in
-      let y = okBlock most-tasks b in
-      let z = not (isFree b && behind v) in
-      let h2 = and-r x (y && z) h in
-      record { ahead = leb-true (v .at + 12) n (and-l x (y && z) h); fit = and-l y z h2; apart = and-r y z h2 }
+      let y = not (isFree b && behind v) in
+      let z = okBlock most-tasks b in
+      record { ahead = leb-true (v .at + 12) n (and-l x (y && z) h); fit = and-r y z (and-r x (y && z) h) }
 
-  pub close-stands : Standing → stands n v b ≡ true
-  close-stands o = and-i (leb (v .at + 12) n) _ (le-leb (v .at + 12) n (o .ahead)) (and-i (okBlock most-tasks b) _ (o .fit) (o .apart))
-
-  -- a free block behind a live one, and a live block
-  pub stands-free : v .at + 12 ≤ n → okBlock most-tasks b ≡ true → v .at ≤ v .free → stands n v b ≡ true
-  stands-free a f h = close-stands (record { ahead = a; fit = f; apart = ap not (and-f-r (isFree b) (behind v) (le-ltb (v .free) (v .at) h)) })
-
-  pub stands-live : v .at + 12 ≤ n → okBlock most-tasks b ≡ true → (b .owner ≡ 0 → ⊥) → stands n v b ≡ true
-  stands-live a f h = close-stands (record { ahead = a; fit = f; apart = rw (ne-eqb (b .owner) 0 h) })
+  pub close-stands : v .at + 12 ≤ n → mayStand v b ≡ true → stands n v b ≡ true
+  close-stands a m = and-i (leb (v .at + 12) n) (mayStand v b) (le-leb (v .at + 12) n a) m
 
   -- and what may not stand
-  pub unfit : okBlock most-tasks b ≡ false → stands n v b ≡ false
-  unfit h = and-f-r (leb (v .at + 12) n) (okBlock most-tasks b && not (isFree b && behind v)) (rw h)
-
-  pub doubled : b .owner ≡ 0 → v .free < v .at → stands n v b ≡ false
-  doubled e h = and-f-r (leb (v .at + 12) n) _ (and-f-r (okBlock most-tasks b) _ (rw (eq-eqb (b .owner) 0 e, lt-ltb (v .free) (v .at) h)))
+  pub unfit : mayStand v b ≡ false → stands n v b ≡ false
+  unfit h = and-f-r (leb (v .at + 12) n) (mayStand v b) h
 
   pub short : n < v .at + 12 → stands n v b ≡ false
   short h = rw (lt-leb (v .at + 12) n h)
 
 -- ---- the walk over bytes
 
-module _ (need place : ℕ) (s : List ℕ) (v : Seen) where
-  pub walk-end : v .at ≡ length s → walkAt need place s v ≡ End v
+module _ (need byte : ℕ) (s : List ℕ) (v : Seen) where
+  pub walk-end : v .at ≡ length s → walkAt need byte s v ≡ End v
   unfolding walk
-  walk-end h = ap (walk need place (length s) v) (blocks-end (v .at) s (omega arith)) ∙ rw (eq-eqb (v .at) (length s) h)
+  walk-end h = ap (walk need byte (length s) v) (blocks-end (v .at) s (omega arith)) ∙ rw (eq-eqb (v .at) (length s) h)
 
   -- z and o are what was read at the place
   module _ (z o : ℕ) (h : v .at < length s) (ez : z ≡ u32At s (v .at)) (eo : o ≡ u32At s (v .at + 4)) where
     here : headerAt s (v .at) ≡ block z o
     here = λ i. block (sym ez i) (sym eo i)
 
-    pub walk-bad : stands (length s) v (block z o) ≡ false → walkAt need place s v ≡ Bad
+    pub walk-bad : stands (length s) v (block z o) ≡ false → walkAt need byte s v ≡ Bad
     unfolding walk
-    walk-bad e = let f = first-at (v .at) s h in ap (walk need place (length s) v) (f .1 ∙ ap (λ (b : Block). b ∷ f .0) here) ∙ rw e
+    walk-bad e = let f = first-at (v .at) s h in ap (walk need byte (length s) v) (f .1 ∙ ap (λ (b : Block). b ∷ f .0) here) ∙ rw e
 
     module _ (e : stands (length s) v (block z o) ≡ true) where
       ahead : blocksOf (drop (v .at) s) ≡ block z o ∷ blocksOf (drop (v .at + z) s)
@@ -88,20 +76,20 @@ module _ (need place : ℕ) (s : List ℕ) (v : Seen) where
           let g = open-block (block z o) (open-stands (length s) v (block z o) e .fit) in
           blocks-at (v .at) s h (omega (arith, g .least)) ∙ (λ i. here i ∷ blocksOf (drop (v .at + sym ez i) s))
 
-      pub walk-here : wanted need place (v .at) (block z o) ≡ true → walkAt need place s v ≡ Here v
+      pub walk-here : wanted need byte (v .at) (block z o) ≡ true → walkAt need byte s v ≡ Here v
       unfolding walk
-      walk-here w = ap (walk need place (length s) v) ahead ∙ rw (e, w)
+      walk-here w = ap (walk need byte (length s) v) ahead ∙ rw (e, w)
 
-      pub walk-pass : wanted need place (v .at) (block z o) ≡ false → walkAt need place s v ≡ walkAt need place s (pass (block z o) v)
+      pub walk-pass : wanted need byte (v .at) (block z o) ≡ false → walkAt need byte s v ≡ walkAt need byte s (pass (block z o) v)
       unfolding walk pass
-      walk-pass w = ap (walk need place (length s) v) ahead ∙ rw (e, w)
+      walk-pass w = ap (walk need byte (length s) v) ahead ∙ rw (e, w)
 
-  pub walk-short : (v .at ≡ length s → ⊥) → length s - 12 < v .at → 12 ≤ length s → walkAt need place s v ≡ Bad
+  pub walk-short : (v .at ≡ length s → ⊥) → length s - 12 < v .at → 12 ≤ length s → walkAt need byte s v ≡ Bad
   unfolding walk
   walk-short ne k m =
       by (ltb (v .at) (length s))
       (λ e. let h : v .at < length s = ltb-true (v .at) (length s) e in walk-bad (u32At s (v .at)) (u32At s (v .at + 4)) h refl refl (short (length s) v (block (u32At s (v .at)) (u32At s (v .at + 4))) (omega arith)))
-      (λ e. ap (walk need place (length s) v) (blocks-end (v .at) s (ltb-false (v .at) (length s) e)) ∙ rw (ne-eqb (v .at) (length s) ne))
+      (λ e. ap (walk need byte (length s) v) (blocks-end (v .at) s (ltb-false (v .at) (length s) e)) ∙ rw (ne-eqb (v .at) (length s) ne))
 
 -- ---- what a block passed adds to what was seen
 

@@ -8,9 +8,10 @@ use lib.ListN.{length, drop, replicate}
 use lib.Dec.{leb, ltb, eqb}
 use Rattle.model.specs.declared.HeaderPlace.{HeaderPlace}
 use Rattle.model.specs.Limits.{most-tasks, longest-pool}
-use Rattle.model.specs.Blocks.{Block, block, isFree, total, okBlock, tiled, holds, fits, firstFit, freed, room, sumFree, greatestFree}
+use Rattle.model.specs.Blocks.{Block, block, isFree, total, okBlock, tiled, holds, fits, firstFit, liveAt, freed, room, sumFree, greatestFree}
 use Rattle.model.specs.Bytes.{u32At, blocksOf, header, overlay, written, render, erase}
 use Rattle.model.specs.Rules.{okLong}
+use Rattle.model.specs.Calls.{offsetOf}
 use Rattle.layout.specs.declared.Target.{Target}
 use Rattle.layout.specs.declared.Target.the-variants as target
 use Rattle.layout.specs.declared.Spot.{Spot}
@@ -49,7 +50,7 @@ seek test at free (b ∷ bs) =
 
 abbrev pub sought : Target → ℕ → Block → Bool
 sought (target.Run need) at b = holds need b
-sought (target.Block place) at b = eqb at (place .0) && not (isFree b)
+sought (target.Holder o) at b = ltb (o .0) (at + b .size)
 sought target.Nothing at b = false
 
 abbrev pub refused : Surveyed
@@ -75,33 +76,37 @@ pass b v =
 abbrev pub behind : Seen → Bool
 behind v = ltb (v .free) (v .at)
 
--- a free block of at least `need` bytes, or the live block at `place`
+-- a free block of at least `need` bytes, or a block that ends past `byte`
 abbrev pub wanted : ℕ → ℕ → ℕ → Block → Bool
-wanted need place at b = cond (isFree b) (leb need (b .size)) (eqb at place)
+wanted need byte at b = holds need b || ltb byte (at + b .size)
 
--- a block that may stand where it was met; one that ends past the pool's end shows when the walk ends
+-- a block that may stand behind what was seen
+abbrev pub mayStand : Seen → Block → Bool
+mayStand v b = not (isFree b && behind v) && okBlock most-tasks b
+
+-- and with 12 bytes left there; a block that ends past the pool's end shows when the walk ends
 abbrev pub stands : ℕ → Seen → Block → Bool
-stands n v b = leb (v .at + 12) n && (okBlock most-tasks b && not (isFree b && behind v))
+stands n v b = leb (v .at + 12) n && mayStand v b
 
 -- over blocks that are to end at n
 unfoldable pub walk : ℕ → ℕ → ℕ → Seen → List Block → Stop
-walk need place n v [] = cond (eqb (v .at) n) (End v) Bad
-walk need place n v (b ∷ bs) = cond (stands n v b) (cond (wanted need place (v .at) b) (Here v) (walk need place n (pass b v) bs)) Bad
+walk need byte n v [] = cond (eqb (v .at) n) (End v) Bad
+walk need byte n v (b ∷ bs) = cond (stands n v b) (cond (wanted need byte (v .at) b) (Here v) (walk need byte n (pass b v) bs)) Bad
 
 -- over the bytes of a pool from the place seen last on
 abbrev pub walkAt : ℕ → ℕ → List ℕ → Seen → Stop
-walkAt need place l v = walk need place (length l) v (blocksOf (drop (v .at) l))
+walkAt need byte l v = walk need byte (length l) v (blocksOf (drop (v .at) l))
 
 -- a target as two numbers, which no block of a pool meets where they stand for nothing
 abbrev pub needOf : Target → ℕ
 needOf (target.Run need) = need
-needOf (target.Block place) = longest-pool + 1
+needOf (target.Holder o) = longest-pool + 1
 needOf target.Nothing = longest-pool + 1
 
-abbrev pub placeOf : Target → ℕ
-placeOf (target.Run need) = longest-pool
-placeOf (target.Block place) = place .0
-placeOf target.Nothing = longest-pool
+abbrev pub byteOf : Target → ℕ
+byteOf (target.Run need) = longest-pool
+byteOf (target.Holder o) = o .0
+byteOf target.Nothing = longest-pool
 
 abbrev pub spotOf : Seen → Found
 spotOf v = found.At (record { place = record { 0 = v .at }; free = record { 0 = v .free } })
@@ -122,7 +127,8 @@ pub record Grantable (l : List ℕ) (place : HeaderPlace) (need : ℕ) : Type 0 
 -- a sound pool with a live block at the spot
 pub record Releasable (l : List ℕ) (spot : Spot) : Type 0 where
   pub pool : soundPool l ≡ true
-  pub live : seek (sought (target.Block (spot .place))) 0 0 (blocksOf l) ≡ found.At spot
+  pub live : liveAt (spot .place .0) (blocksOf l) ≡ true
+  pub found : seek (sought (target.Holder (offsetOf (spot .place)))) 0 0 (blocksOf l) ≡ found.At spot
 
 -- what a release of the block at the place p leaves: a need fits exactly if it did before, or the run that is now free, of r bytes, holds it
 pub record Released (l : List ℕ) (p : ℕ) (after : List ℕ) (r : ℕ) : Type 0 where

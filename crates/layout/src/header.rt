@@ -7,7 +7,7 @@ ghost use lib.ListN.{length};
 ghost use Rattle.model.specs.Blocks.{block};
 ghost use Rattle.model.specs.Limits.{longest-pool};
 ghost use Rattle.model.specs.Bytes.{le32, header};
-ghost use Rattle.model.specs.Calls.{offsetOf, placeOf};
+ghost use Rattle.model.specs.Calls.{offsetOf};
 ghost use Rattle.layout.specs.Layout.{Read, put};
 
 // The offset of the block whose header is at a place.
@@ -16,14 +16,6 @@ pub fn offset_of(place: HeaderPlace) -> BlockOffset
     ensures { λ r. ⌜ r ≡ offsetOf place ⌝ }
 {
     BlockOffset(place.0 + 8)
-}
-
-// The place of the header of the block at an offset.
-pub fn place_of(offset: BlockOffset) -> HeaderPlace
-    requires { ⌜ 8 ≤ offset .0 ⌝ }
-    ensures { λ r. ⌜ r ≡ placeOf offset ⌝ }
-{
-    HeaderPlace(offset.0 - 8)
 }
 
 fn wide(x: u8) -> usize

@@ -1,14 +1,15 @@
 // The pool's bytes: headers, the walk over them, and the changes that grant and release make.
+use model::BlockOffset;
 use model::HeaderPlace;
 
 pub mod change;
 pub mod header;
 pub mod walk;
 
-// What a walk is to find: the first free run of at least so many bytes, the live block at a place, or nothing.
+// What a walk is to find: the first free run of at least so many bytes, the block that holds an offset, or nothing.
 pub enum Target {
     Run(usize),
-    Block(HeaderPlace),
+    Holder(BlockOffset),
     Nothing,
 }
 

@@ -11,12 +11,12 @@ use model::LONGEST_POOL;
 use model::TASKS;
 ghost use mathlib.Core.Path.{_≡_};
 ghost use mathlib.Core.Bool.{true};
-ghost use Prim.Native.Nat.{_+_, _≤_, _<_};
+ghost use Prim.Native.Nat.{_+_, _≤_, _<_, max};
 ghost use lib.ListN.{length};
 ghost use Rattle.model.specs.Limits.{most-tasks, longest-pool};
 ghost use Rattle.model.specs.Blocks.{block, okBlock};
 ghost use Rattle.model.specs.Bytes.{blocksOf};
-ghost use Rattle.layout.specs.Layout.{pass, walkAt, needOf, placeOf, spotOf, refused, surveyOf, soundPool, firstFitOf};
+ghost use Rattle.layout.specs.Layout.{mayStand, wanted, pass, walkAt, needOf, byteOf, spotOf, refused, surveyOf, soundPool, firstFitOf};
 
 // Whether a header may stand in a pool. Whether the block ends within the pool shows when the walk ends.
 fn is_block(size: usize, owner: usize) -> bool
@@ -31,44 +31,66 @@ fn is_block(size: usize, owner: usize) -> bool
     owner <= TASKS
 }
 
+// Whether a header may stand behind what was seen: no free block follows a free one. The owner is tested first, so that the compiled walk branches on it once.
+fn may_stand(seen: Seen, size: usize, owner: usize) -> bool
+    ensures { λ r. ⌜ r ≡ mayStand seen (block size owner) ⌝ }
+{
+    if owner == 0 {
+        if seen.free < seen.at {
+            return false;
+        }
+    }
+    is_block(size, owner)
+}
+
+// Whether a block at a place is one sought: a free block of at least `need` bytes, or one that ends past `byte`.
+fn is_wanted(need: usize, byte: usize, at: usize, size: usize, owner: usize) -> bool
+    requires { ⌜ at + size < 18446744073709551616 ⌝ }
+    ensures { λ r. ⌜ r ≡ wanted need byte at (block size owner) ⌝ }
+{
+    let end = at + size;
+    if owner == 0 {
+        if need <= size {
+            return true;
+        }
+    }
+    byte < end
+}
+
+pub fn greater(a: usize, b: usize) -> usize
+    ensures { λ r. ⌜ r ≡ max a b ⌝ }
+{
+    if a < b { b } else { a }
+}
+
 // What is seen once a block is passed.
 fn passed(seen: Seen, size: usize, owner: usize) -> Seen
     requires { ⌜ (8 ≤ size) × (seen .sum ≤ seen .at) × (seen .at + size < 18446744073709551616) ⌝ }
     ensures { λ r. ⌜ r ≡ pass (block size owner) seen ⌝ }
 {
     let at = seen.at;
-    let sum = seen.sum;
-    let greatest = seen.greatest;
     let next = at + size;
     if owner != 0 {
         return Seen {
             at: next,
             free: next,
-            greatest: greatest,
-            sum: sum,
+            greatest: seen.greatest,
+            sum: seen.sum,
         };
     }
     let room = size - 8;
-    if greatest < room {
-        return Seen {
-            at: next,
-            free: at,
-            greatest: room,
-            sum: sum + room,
-        };
-    }
     Seen {
         at: next,
         free: at,
-        greatest: greatest,
-        sum: sum + room,
+        greatest: greater(seen.greatest, room),
+        sum: seen.sum + room,
     }
 }
 
-// Tests and measures block by block from what was seen on; stops before a free block of `need` bytes or the live block at `place`.
-fn walk_from(s: &[u8], need: usize, place: usize, seen: Seen) -> Stop
+// Tests and measures block by block from what was seen on; stops before a free block of `need` bytes or the block that holds `byte`.
+fn walk_from(s: &[u8], need: usize, byte: usize, seen: Seen) -> Stop
     requires { ⌜ (12 ≤ length (now s)) × (length (now s) ≤ longest-pool) × (seen .sum ≤ seen .at) ⌝ }
-    ensures { λ r. ⌜ r ≡ walkAt need place (now (s .entry)) seen ⌝ }
+    ensures { λ r. ⌜ r ≡ walkAt need byte (now (s .entry)) seen ⌝ }
 {
     let n = s.len();
     let last = n - 12;
@@ -83,48 +105,38 @@ fn walk_from(s: &[u8], need: usize, place: usize, seen: Seen) -> Stop
         }
         let size = header::read_u32(s, at);
         let owner = header::read_u32(s, at + 4);
-        if !is_block(size, owner) {
+        if !may_stand(v, size, owner) {
             break Stop::Bad;
         }
-        if owner == 0 {
-            if v.free < at {
-                break Stop::Bad;
-            }
-            if need <= size {
-                break Stop::Here(v);
-            }
-            v = passed(v, size, owner);
-        } else {
-            if at == place {
-                break Stop::Here(v);
-            }
-            v = passed(v, size, owner);
+        if is_wanted(need, byte, at, size, owner) {
+            break Stop::Here(v);
         }
+        v = passed(v, size, owner);
     }
 }
 
-// No block of a pool has this size, and none begins at that place.
+// No block of a pool has this size, and none ends past that byte.
 const NO_NEED: usize = LONGEST_POOL + 1;
 
-const NO_PLACE: usize = LONGEST_POOL;
+const NO_BYTE: usize = LONGEST_POOL;
 
 fn need_of(target: Target) -> usize
     ensures { λ r. ⌜ r ≡ needOf target ⌝ }
 {
     match target {
         Target::Run(need) => need,
-        Target::Block(_) => NO_NEED,
+        Target::Holder(_) => NO_NEED,
         Target::Nothing => NO_NEED,
     }
 }
 
-fn place_of(target: Target) -> usize
-    ensures { λ r. ⌜ r ≡ placeOf target ⌝ }
+fn byte_of(target: Target) -> usize
+    ensures { λ r. ⌜ r ≡ byteOf target ⌝ }
 {
     match target {
-        Target::Run(_) => NO_PLACE,
-        Target::Block(place) => place.0,
-        Target::Nothing => NO_PLACE,
+        Target::Run(_) => NO_BYTE,
+        Target::Holder(offset) => offset.0,
+        Target::Nothing => NO_BYTE,
     }
 }
 
@@ -174,7 +186,7 @@ pub fn survey(s: &[u8], target: Target) -> Surveyed
     if LONGEST_POOL < n {
         return unsound();
     }
-    let first = walk_from(s, need_of(target), place_of(target), unseen());
+    let first = walk_from(s, need_of(target), byte_of(target), unseen());
     match first {
         Stop::Bad => unsound(),
         Stop::End(v) => Surveyed {
@@ -184,7 +196,7 @@ pub fn survey(s: &[u8], target: Target) -> Surveyed
             sum: v.sum,
         },
         Stop::Here(v) => {
-            let last = walk_from(s, NO_NEED, NO_PLACE, v);
+            let last = walk_from(s, NO_NEED, NO_BYTE, v);
             match last {
                 Stop::End(w) => Surveyed {
                     sound: true,
@@ -204,7 +216,7 @@ pub fn first_fit(s: &[u8], need: usize) -> Found
     requires { ⌜ soundPool (now s) ≡ true ⌝ }
     ensures { λ r. ⌜ r ≡ firstFitOf need (blocksOf (now (s .entry))) ⌝ }
 {
-    let stop = walk_from(s, need, NO_PLACE, unseen());
+    let stop = walk_from(s, need, NO_BYTE, unseen());
     match stop {
         Stop::Here(v) => spot_of(v),
         Stop::End(_) => Found::Nothing,

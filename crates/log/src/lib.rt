@@ -17,6 +17,9 @@ pub enum Record {
     Tick,
 }
 
+// The most bytes of a log that is replayed.
+pub const LONGEST_LOG: usize = 65536;
+
 // What stands at the start of the rest of a log.
 pub enum Read {
     // a record, and the place after it

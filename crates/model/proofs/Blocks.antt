@@ -2,13 +2,14 @@
 use Prim.Native.Nat.{ℕ, _+_, _-_, _%_, _≤_, _<_, max}
 use mathlib.Core.Path.{_≡_, refl, sym, ap, _∙_}
 use mathlib.Core.Bool.{Bool, true, false, not, _&&_, _||_}
-use mathlib.Core.List.{List, [], _∷_}
+use mathlib.Core.List.{List, [], _∷_, _++_}
 use native.Mathlib.Omega.{arith}
 use native.Mathlib.Nat.{zero-max}
-use lib.Dec.{leb, eqb}
-use borrow.Author.Tests.{leb-true, leb-false, eqb-true, le-leb, lt-leb, eq-eqb, ne-eqb}
-use Rattle.model.specs.Blocks.{Block, block, isFree, total, okBlock, tiled, holds, fits, firstFit, carve, granted, liveAt, join, freed, greatestFree}
-use Rattle.model.proofs.Tests.{by, and-l, and-r, and-i, and-f-r, or-f-l, or-f-r, or-f, not-t}
+use lib.Dec.{leb, ltb, eqb}
+use borrow.Author.Tests.{leb-true, leb-false, ltb-true, ltb-false, eqb-true, le-leb, lt-leb, lt-ltb, le-ltb, eq-eqb, ne-eqb}
+use Rattle.model.specs.Blocks.{Block, block, isFree, total, okBlock, tiled, holds, fits, firstFit, carve, granted, startsAt, liveAt, freeAt, holder, join, freed, greatestFree}
+use Rattle.model.specs.Demands.{HolderOf, OneHolder}
+use Rattle.model.proofs.Tests.{by, clash, and-l, and-r, and-i, and-f-r, or-f-l, or-f-r, or-f, not-t}
 
 -- ---- a block that holds a need
 
@@ -235,13 +236,13 @@ module _ (tasks : ℕ) where
 
   module _ (n t : ℕ) (t1 : 1 ≤ t) where
     carve-live : (b : Block) (bs : List Block) → liveAt 0 (carve n t b bs) ≡ true
-    unfolding liveAt carve
+    unfolding startsAt carve
     carve-live b bs =
         let l : eqb t 0 ≡ false = ne-eqb t 0 (omega arith) in
         by (leb (n + 12) (b .size)) (λ s. rw (s, l)) (λ s. rw (s, l))
 
     pub granted-live : (p : Bool) (bs : List Block) → tiled tasks p bs ≡ true → fits n bs ≡ true → liveAt (firstFit n bs) (granted n t bs) ≡ true
-    unfolding granted fits firstFit liveAt
+    unfolding granted fits firstFit startsAt
     granted-live p [] e f = f
     granted-live p (b ∷ bs) e f =
         let o = tile p b bs e in
@@ -273,3 +274,72 @@ module _ (tasks : ℕ) where
         let z : eqb (b .size + firstFit n bs) 0 ≡ false = ne-eqb (b .size + firstFit n bs) 0 (omega (arith, o .least)) in
         let d : b .size + firstFit n bs - b .size ≡ firstFit n bs = omega arith in
         rw h (rw (z, d) (rw (granted-freed (isFree b) bs (o .rest) f2) (join-apart b bs (o .rest)))))
+
+-- ---- where a block starts, and which block holds a byte
+
+pub live-not-free : (p : ℕ) (bs : List Block) → liveAt p bs ≡ true → freeAt p bs ≡ false
+unfolding startsAt
+live-not-free p [] h = refl
+live-not-free p (b ∷ bs) h =
+    by (eqb p 0)
+    (λ z. rw z (not-t (isFree b) (rw z at h)))
+    (λ z. let g : leb (b .size) p && liveAt (p - b .size) bs ≡ true = rw z at h in
+    rw z (and-f-r (leb (b .size) p) _ (live-not-free (p - b .size) bs (and-r (leb (b .size) p) _ g))))
+
+-- a block that starts at p, in blocks that may follow one another
+pub record Starts (p : ℕ) (bs : List Block) : Type 0 where
+  pub by-four : p % 4 ≡ 0
+  pub within : p + 12 ≤ total bs
+  pub holds : (i : ℕ) → i ≡ p + 8 → holder i bs ≡ p
+
+pub starts : (tasks : ℕ) (test : Block → Bool) (p : ℕ) (q : Bool) (bs : List Block) → tiled tasks q bs ≡ true → startsAt test p bs ≡ true → Starts p bs
+unfolding startsAt total holder
+starts tasks test p q [] t h = clash false h refl
+starts tasks test p q (b ∷ bs) t h =
+    let o = tile tasks q b bs t in
+    by (eqb p 0)
+    (λ z. let e = eqb-true p 0 z in
+    record { by-four = omega (arith, e); within = omega (arith, e, o .least); holds = λ i x. rw (lt-ltb i (b .size) (omega (arith, e, o .least))) (sym e) })
+    (λ z. let g : leb (b .size) p && startsAt test (p - b .size) bs ≡ true = rw z at h in
+    let k = leb-true (b .size) p (and-l (leb (b .size) p) _ g) in
+    let r = starts tasks test (p - b .size) (isFree b) bs (o .rest) (and-r (leb (b .size) p) _ g) in
+    record {
+      by-four = omega (arith, r .by-four, o .by-four);
+      within = omega (arith, r .within);
+      holds = λ i x. rw (le-ltb i (b .size) (omega arith), r .holds (i - b .size) (omega arith)) (omega arith);
+    })
+
+-- the byte i lies in the block that holds it
+inside : (i : ℕ) (bs : List Block) → i < total bs → HolderOf i bs (holder i bs)
+unfolding total holder
+inside i [] h = absurd (omega arith)
+inside i (b ∷ bs) h =
+    by (ltb i (b .size))
+    (λ e. let k = ltb-true i (b .size) e in
+    rw e (record { pre = []; b = b; post = bs; is = refl; place = refl; from = omega arith; to = omega arith }))
+    (λ e. let k = ltb-false i (b .size) e in
+    let r = inside (i - b .size) bs (omega arith) in
+    rw e (record {
+      pre = b ∷ r .pre;
+      b = r .b;
+      post = r .post;
+      is = ap (λ (x : List Block). b ∷ x) (r .is);
+      place = ap (λ (n : ℕ). b .size + n) (r .place);
+      from = omega (arith, r .from);
+      to = omega (arith, r .to);
+    }))
+
+-- and in no other
+held-by : (i : ℕ) (pre : List Block) (b : Block) (post : List Block) → total pre ≤ i → i < total pre + b .size → holder i (pre ++ (b ∷ post)) ≡ total pre
+unfolding total holder
+held-by i [] b post h k = rw (lt-ltb i (b .size) (omega arith))
+held-by i (c ∷ pre) b post h k =
+    rw (le-ltb i (c .size) (omega arith)) (ap (λ (n : ℕ). c .size + n) (held-by (i - c .size) pre b post (omega arith) (omega arith)))
+
+pub held : (i : ℕ) (bs : List Block) → i < total bs → OneHolder i bs (holder i bs)
+held i bs h =
+    record {
+      holds = inside i bs h;
+      only = λ x o.
+          o .place ∙ sym (held-by i (o .pre) (o .b) (o .post) (omega (arith, o .place, o .from)) (omega (arith, o .place, o .to))) ∙ ap (holder i) (sym (o .is));
+    }

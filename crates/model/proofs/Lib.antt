@@ -9,6 +9,7 @@ pub mod Store
 pub mod Serving
 pub mod Soundness
 pub mod Refusals
+pub mod Reasons
 pub mod NoTrace
 pub mod Runs
 pub mod Pool

@@ -1,61 +1,43 @@
 -- Demand 3 over any store: a cancelled wait leaves no trace, and a block got and released at once leaves none either. Assumes nothing.
-use Prim.Native.Nat.{ℕ, _+_}
+use Prim.Native.Nat.{ℕ, zero, suc, _+_}
 use mathlib.Core.Path.{_≡_, refl, sym, ap, _∙_}
-use mathlib.Core.Bool.{Bool, true, false, not, _&&_, _||_}
+use mathlib.Core.Bool.{Bool, true, false, not, _||_}
 use mathlib.Core.List.{List, [], _∷_, _++_, append-assoc, append-nil}
 use mathlib.Core.Option.{Option, none, some}
 use native.Mathlib.Omega.{arith}
-use lib.Dec.{leb, eqb}
+use lib.Dec.{eqb}
 use lib.IntN.{ℤ, pos, negsuc}
 use borrow.Author.Tests.{le-leb, ne-eqb}
 use Rattle.model.specs.Limits.{e-ok, waiting, e-rlwai}
 use Rattle.model.specs.Waiting.{Entry, waits, remove, blocked}
 use Rattle.model.specs.Rules.{Rules, Laws, okTask}
-use Rattle.model.specs.Calls.{HeaderPlace, Woken, noOffset, offsetOf, placeOf, Request, Call, get, release, cancel, tick, inquire, Reply, says, refuse, deny, okLimit, isPoll, entryOf, leaves, Store, State, state, Served, wake, fitting, offset, given, wakes, serve, headStuck, sound, goes, isLive, tests, grants, joins, act, step}
-use Rattle.model.specs.Runs.{after, run, gets, refusedBy, refusals, isZero, winners, Absent, Others, Ranked}
+use Rattle.model.specs.Calls.{HeaderPlace, Woken, noOffset, offsetOf, placeOf, Request, Call, get, release, cancel, Reply, says, Refusal, refuse, isPoll, entryOf, leaves, Store, State, state, Served, wake, fitting, offset, given, wakes, serve, headStuck, sound, goes, isLive, tests, grants, joins, act, step}
+use Rattle.model.specs.Runs.{after, run, gets, refuses, refusedBy, refusals, isZero, winners, Absent, Others, Ranked}
 use Rattle.model.specs.Demands.{NoTrace, undo}
 use Rattle.model.proofs.Tests.{by, clash, and-r, or-f-l, or-f-r, or-f}
 use Rattle.model.proofs.Waiting.{waits-other, remove-insert-same, remove-insert, waits-insert, waits-insert-same, blocked-insert, blocked-more}
 use Rattle.model.proofs.Store.{StoreLaws}
+use Rattle.model.proofs.Refusals.{verdict-refused, refused-code}
+use Rattle.model.proofs.Reasons.{live-released}
 use Rattle.model.proofs.Serving.{serve-stuck, Below, below-stuck, below-insert, more, serve-insert}
 use Rattle.model.proofs.Soundness.{no-some, open-sound, Passed, passed, passed-asked, step-refused, step-done, verdict-sound, step-sound}
 
--- ---- refusals are negative
+-- ---- a refusal has a code of its own
 
-unfoldable pub Negative : Option ℤ → Type 0
-Negative none = Unit {0}
-Negative (some (pos n)) = ⊥
-Negative (some (negsuc n)) = Unit {0}
+pub test-refuses : (K : Rules) {P : Type 0} (E : Store P) (c : Call) (s : State P) (x : Refusal) → tests K E c s ≡ some x → refuses (x .code) ≡ true
+test-refuses K E c s x e = refused-code K E true c s x (verdict-refused K E true c s x e)
 
--- one test after another
-denies-negative : (a b c d : Bool) (i j k l : ℕ) → Negative (deny a (negsuc i) (deny b (negsuc j) (deny c (negsuc k) (deny d (negsuc l) none))))
-unfolding Negative
-denies-negative true b c d i j k l = tt
-denies-negative false true c d i j k l = tt
-denies-negative false false true d i j k l = tt
-denies-negative false false false true i j k l = tt
-denies-negative false false false false i j k l = tt
-
-module _ (K : Rules) {P : Type 0} (E : Store P) where
-  pub tests-negative : (c : Call) (s : State P) → Negative (tests K E c s)
-  unfolding tests Negative
-  tests-negative (get r) s =
-      denies-negative (not (okTask K (r .task))) (not (K .allowed (entryOf r) && okLimit (r .limit))) (waits (r .task) (s .queue)) (isPoll (r .limit) && not (goes K E (entryOf r) s)) 17 16 24 49
-  tests-negative (release o) s = denies-negative (not (isLive K E o (s .pool))) false false false 16 0 0 0
-  tests-negative (cancel t) s = denies-negative (not (okTask K t)) (not (waits t (s .queue))) false false 17 40 0 0
-  tests-negative tick s = tt
-  tests-negative inquire s = tt
-
-pub negative-code : (k : ℤ) → Negative (some k) → (refusedBy k ≡ some k) × (isZero k ≡ false)
-unfolding Negative refusedBy
-negative-code (pos n) h = absurd h
-negative-code (negsuc n) h = (refl, refl)
+not-zero : (k : ℤ) → refuses k ≡ true → isZero k ≡ false
+unfolding refuses
+not-zero (pos zero) h = clash false h refl
+not-zero (pos (suc n)) h = ne-eqb (suc n) 0 (λ e. omega arith)
+not-zero (negsuc n) h = refl
 
 module _ (K : Rules) {P : Type 0} (E : Store P) where
   -- ---- how a get ends in a sound state
 
   pub data Outcome (r : Request) (s : State P) : Type 0 where
-    refusal : (k : ℤ) → tests K E (get r) s ≡ some k → step K E (get r) s ≡ refuse s k → Outcome r s
+    refusal : (k : Refusal) → tests K E (get r) s ≡ some k → step K E (get r) s ≡ refuse s k → Outcome r s
     granting : tests K E (get r) s ≡ none → goes K E (entryOf r) s ≡ true → step K E (get r) s ≡ grants K E (entryOf r) s → Outcome r s
     joining : tests K E (get r) s ≡ none → goes K E (entryOf r) s ≡ false → step K E (get r) s ≡ joins K E (entryOf r) s → Outcome r s
 
@@ -63,7 +45,7 @@ module _ (K : Rules) {P : Type 0} (E : Store P) where
   unfolding act
   outcome r s h = go (tests K E (get r) s) refl
     where
-      go : (v : Option ℤ) → tests K E (get r) s ≡ v → Outcome r s
+      go : (v : Option Refusal) → tests K E (get r) s ≡ v → Outcome r s
       go (some k) e = refusal k e (step-refused K E (get r) s k (verdict-sound K E (get r) s h ∙ e))
       go none e =
           let d = step-done K E (get r) s (verdict-sound K E (get r) s h ∙ e) in
@@ -75,13 +57,11 @@ module _ (K : Rules) {P : Type 0} (E : Store P) where
   code-not : {X : Type 0} (a b : Reply (State P)) (c : ℤ) → a ≡ b → a .said .code ≡ c → (b .said .code ≡ c → ⊥) → X
   code-not a b c e h n = absurd (n (sym (ap (λ (x : Reply (State P)). x .said .code) e) ∙ h))
 
-  refused-not : {X : Type 0} (r : Request) (s : State P) (k : ℤ) (n : ℕ) → tests K E (get r) s ≡ some k → step K E (get r) s ≡ refuse s k
-      → step K E (get r) s .said .code ≡ pos n → X
-  unfolding Negative
-  refused-not r s k n t e z =
-      let g : Negative (some k) = rw t at (tests-negative K E (get r) s) in
-      let q : k ≡ pos n = sym (ap (λ (x : Reply (State P)). x .said .code) e) ∙ z in
-      absurd (rw q at g)
+  refused-not : {X : Type 0} (r : Request) (s : State P) (x : Refusal) (k : ℤ) → tests K E (get r) s ≡ some x → step K E (get r) s ≡ refuse s x
+      → step K E (get r) s .said .code ≡ k → refuses k ≡ false → X
+  refused-not r s x k t e z n =
+      let q : x .code ≡ k = sym (ap (λ (a : Reply (State P)). a .said .code) e) ∙ z in
+      clash (refuses k) (rw q at (test-refuses K E (get r) s x t)) n
 
   module _ (L : Laws K) (S : StoreLaws K E) where
     -- ---- second half
@@ -89,19 +69,22 @@ module _ (K : Rules) {P : Type 0} (E : Store P) where
     undone : (e : Entry) (s : State P) → sound K E (grants K E e s .state) ≡ true → E .live (E .place (K .need (e .size)) (s .pool)) (given K E e (s .pool)) ≡ true
         → E .free (E .place (K .need (e .size)) (s .pool)) (given K E e (s .pool)) ≡ s .pool → headStuck K E (s .pool) (s .queue) ≡ true
         → step K E (release (offset K E e (s .pool))) (grants K E e s .state) ≡ record { said = says e-ok noOffset []; state = s }
-    unfolding step tests act
+    unfolding tests act
     undone e s h l f st =
         let a = E .place (K .need (e .size)) (s .pool) in
+        let after = grants K E e s .state in
         let d : placeOf (offsetOf a) ≡ a = ap {B = HeaderPlace} (λ (n : ℕ). record { 0 = n }) (omega arith) in
-        let b : leb 8 (a .0 + 8) ≡ true = le-leb 8 (a .0 + 8) (omega arith) in
-        rw (h, b, d) (rw (l, f) (ap (λ (v : Served P). wake [] v) (serve-stuck K E (s .pool) (s .queue) st)))
+        let b : isLive K E (offsetOf a) (after .pool) ≡ true = rw (le-leb 8 (a .0 + 8) (omega arith), d) l in
+        step-done K E (release (offsetOf a)) after (verdict-sound K E (release (offsetOf a)) after h ∙ live-released K E S (offsetOf a) (after .pool) (open-sound K E after h .pool) b)
+        ∙ rw (d, f) (ap (λ (v : Served P). wake [] v) (serve-stuck K E (s .pool) (s .queue) st))
 
     pub get-release : (r : Request) (s : State P) → sound K E s ≡ true → step K E (get r) s .said .code ≡ e-ok
         → undo (step K E) s r ≡ record { said = says e-ok noOffset []; state = s }
+    unfolding refuses
     get-release r s h z = go (outcome r s h)
       where
         go : Outcome r s → undo (step K E) s r ≡ record { said = says e-ok noOffset []; state = s }
-        go (refusal k t e) = refused-not r s k 0 t e z
+        go (refusal x t e) = refused-not r s x e-ok t e z refl
         go (joining n g e) = code-not (step K E (get r) s) (joins K E (entryOf r) s) e-ok e z (λ q. let z : _≡_ {A = ℕ} 0 1 = cc in omega arith)
         go (granting n g e) =
             let k = open-sound K E s h in
@@ -173,7 +156,7 @@ module _ (K : Rules) {P : Type 0} (E : Store P) where
     record SameNext (t : ℕ) (a₁ a₂ : Reply (State P)) (w : List Woken) (r : Request) (rs : List Request) : Type 0 where
       cancelled : step K E (cancel t) (after (step K E) (a₁ .state) (gets rs))
           ≡ record { said = says e-ok noOffset (leaves e-rlwai t ∷ (w ++ winners (record { call = get r; said = a₂ .said } ∷ run (step K E) (a₂ .state) (gets rs)))); state = after (step K E) (a₂ .state) (gets rs) }
-      first : refusedBy (a₁ .said .code) ≡ refusedBy (a₂ .said .code)
+      first : refusedBy (a₁ .said) ≡ refusedBy (a₂ .said)
       refused : refusals (run (step K E) (a₁ .state) (gets rs)) ≡ refusals (run (step K E) (a₂ .state) (gets rs))
 
     same-cons : (t : ℕ) (s₁ s₂ : State P) (w : List Woken) (r : Request) (rs : List Request) → SameNext t (step K E (get r) s₁) (step K E (get r) s₂) w r rs → Same t s₁ s₂ w (r ∷ rs)
@@ -199,7 +182,7 @@ module _ (K : Rules) {P : Type 0} (E : Store P) where
 
     module _ (t k : ℕ) (s₁ s₂ : State P) (w : List Woken) (r : Request) (rs : List Request) (o : Twin t k s₁ s₂ w) (ne : r .task ≡ t → ⊥)
         (fr : Fresh rs w) (again : (z₁ z₂ : State P) (v : List Woken) → Twin t k z₁ z₂ v → Fresh rs v → Same t z₁ z₂ v rs) where
-      step-refusal : (c : ℤ) → step K E (get r) s₁ ≡ refuse s₁ c → step K E (get r) s₂ ≡ refuse s₂ c → isZero c ≡ false
+      step-refusal : (c : Refusal) → step K E (get r) s₁ ≡ refuse s₁ c → step K E (get r) s₂ ≡ refuse s₂ c → isZero (c .code) ≡ false
           → SameNext t (step K E (get r) s₁) (step K E (get r) s₂) w r rs
       unfolding winners
       step-refusal c g₁ g₂ z =
@@ -226,7 +209,7 @@ module _ (K : Rules) {P : Type 0} (E : Store P) where
 
       step-joining : K .rank (entryOf r) ≡ k → Absent (r .task) rs → step K E (get r) s₁ ≡ joins K E (entryOf r) s₁ → Outcome r s₂ → tests K E (get r) s₂ ≡ none
           → SameNext t (step K E (get r) s₁) (step K E (get r) s₂) w r rs
-      unfolding winners refusedBy
+      unfolding winners refuses
       step-joining rk ab g₁ (refusal c u g₂) n = no-some (sym u ∙ n)
       step-joining rk ab g₁ (granting q h g₂) n =
           let e = entryOf r in
@@ -245,7 +228,7 @@ module _ (K : Rules) {P : Type 0} (E : Store P) where
           → SameNext t (step K E (get r) s₁) (step K E (get r) s₂) w r rs
       next rk ab al (refusal c u g₁) =
           let g₂ = step-refused K E (get r) s₂ c (verdict-sound K E (get r) s₂ (o .without-sound) ∙ (sym al ∙ u)) in
-          step-refusal c g₁ g₂ (negative-code c (rw u at (tests-negative K E (get r) s₁)) .1)
+          step-refusal c g₁ g₂ (not-zero (c .code) (test-refuses K E (get r) s₁ c u))
       next rk ab al (granting q h g₁) =
           let b : blocked (K .rank) (K .rank (entryOf r)) (s₁ .queue) ≡ true = rw rk (o .held) in
           clash (goes K E (entryOf r) s₁) h (rw b)
@@ -276,10 +259,11 @@ module _ (K : Rules) {P : Type 0} (E : Store P) where
 
     pub no-trace : (s : State P) (f : Request) (rs : List Request) → sound K E s ≡ true → step K E (get f) s .said .code ≡ waiting
         → Others (f .task) rs → Ranked (K .rank) (K .rank (entryOf f)) rs → NoTrace (step K E) s f rs
+    unfolding refuses
     no-trace s f rs h z os rk = go (outcome f s h)
       where
         go : Outcome f s → NoTrace (step K E) s f rs
-        go (refusal k t e) = refused-not f s k 1 t e z
+        go (refusal x t e) = refused-not f s x waiting t e z refl
         go (granting n g e) = code-not (step K E (get f) s) (grants K E (entryOf f) s) waiting e z (λ q. let z : _≡_ {A = ℕ} 0 1 = cc in omega arith)
         go (joining n g e) =
             let q = passed K E f s n in

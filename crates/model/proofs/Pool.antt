@@ -2,33 +2,33 @@
 use Prim.Native.Nat.{ℕ, _≤_}
 use mathlib.Core.Path.{_≡_, refl, sym, ap, _∙_}
 use mathlib.Core.Bool.{Bool, true, false}
-use mathlib.Core.Logic.{_↔_}
+use mathlib.Core.Logic.{_↔_, _⊎_, inl, inr}
 use mathlib.Core.List.{List, [], _∷_}
 use mathlib.Core.Option.{Option, none, some}
 use native.Mathlib.Omega.{arith}
 use native.Mathlib.Nat.{add-zero}
 use lib.ListN.{length}
-use lib.IntN.{ℤ}
-use Rattle.model.specs.Limits.{most-tasks, e-ok, waiting, e-sys, e-rlwai}
+use Rattle.model.specs.Limits.{most-tasks, e-ok, waiting, e-sys, e-rlwai, already-free}
 use Rattle.model.specs.Blocks.{Block, block, total, tiled}
 use Rattle.model.specs.Waiting.{Entry, remove}
 use Rattle.model.specs.Rules.{Rules, Laws, queued}
-use Rattle.model.specs.Calls.{noOffset, Request, Call, get, release, cancel, tick, inquire, Said, Reply, says, refuse, decide, entryOf, leaves, blocks, Store, State, state, fitting, given, serve, headStuck, sound, tests, verdict, act, step}
+use Rattle.model.specs.Calls.{BlockOffset, noOffset, noPlace, Request, Call, get, release, cancel, tick, inquire, Said, Reply, says, Refusal, plain, refuse, decide, entryOf, leaves, blocks, Store, State, state, fitting, given, serve, headStuck, sound, isLive, misplaced, tests, verdict, act, step}
 use Rattle.model.specs.Refusals.{Refused}
-use Rattle.model.specs.Runs.{Turn, after, run, gets, refusedBy, refusals, winners, Others, Ranked}
-use Rattle.model.specs.Demands.{Seen, NoTrace, undo, Undone}
+use Rattle.model.specs.Runs.{Turn, after, run, gets, refuses, refusedBy, refusals, winners, Others, Ranked}
+use Rattle.model.specs.Demands.{Seen, NoTrace, undo, Undone, OneHolder}
 use Rattle.model.specs.Bytes.{blocksOf, render, erase}
 use Rattle.model.specs.Places.{noEntry, pad, used, allUnused, tidy, entriesOf, queueOf}
 use Rattle.model.specs.Pool.{Stored, stored, Typed, view, settled, soundBy, performBy, rulesOf, isSound, perform, create}
-use Rattle.model.proofs.Tests.{by, and-l, and-r, and-i}
+use Rattle.model.proofs.Tests.{by, clash, and-l, and-r, and-i}
 use Rattle.model.proofs.Blocks.{untile}
 use Rattle.model.proofs.Waiting.{open-queued, entry-asked, remove-queued, queued-length}
 use Rattle.model.proofs.Bytes.{Finer, finer-refl, finer-trans, granted-finer, render-length, erase-length, render-erase, render-render, blocks-render, render-blocks}
 use Rattle.model.proofs.Places.{queued-live, pad-length, used-pad, tidy-pad, queue-entries}
 use Rattle.model.proofs.Store.{open-blocks, close-blocks, block-laws}
 use Rattle.model.proofs.Soundness.{no-some, Sound, open-sound, close-sound, passed, passed-asked, step-refused, step-done, verdict-sound, act-sound, woken-length}
-use Rattle.model.proofs.Refusals.{verdict-refused, refused-verdict, act-code}
-use Rattle.model.proofs.NoTrace.{tests-negative, negative-code, Outcome, refusal, granting, joining, outcome, no-trace, get-release}
+use Rattle.model.proofs.Refusals.{verdict-refused, refused-verdict, refused-code, misplaced-because, done-code, act-code, act-no-reason}
+use Rattle.model.proofs.Reasons.{live-released, released-live, held-at}
+use Rattle.model.proofs.NoTrace.{Outcome, refusal, granting, joining, outcome, no-trace, get-release}
 use Rattle.model.proofs.Runs.{runs-alike, ends-alike}
 
 -- ---- a state as it is kept, given the rules
@@ -45,11 +45,11 @@ module _ (K : Rules) where
   unfolding soundBy
   close-stored p h t = and-i (sound K (blocks K) (view p)) _ h t
 
-  pub by-unsound : (c : Call) (p : Stored) → soundBy K p ≡ false → performBy K c p ≡ refuse p e-sys
+  pub by-unsound : (c : Call) (p : Stored) → soundBy K p ≡ false → performBy K c p ≡ refuse p (plain e-sys)
   unfolding performBy
   by-unsound c p h = rw h
 
-  pub by-refused : (c : Call) (p : Stored) (k : ℤ) → soundBy K p ≡ true → tests K (blocks K) c (view p) ≡ some k → performBy K c p ≡ refuse p k
+  pub by-refused : (c : Call) (p : Stored) (k : Refusal) → soundBy K p ≡ true → tests K (blocks K) c (view p) ≡ some k → performBy K c p ≡ refuse p k
   unfolding performBy
   by-refused c p k h e = rw (h, e)
 
@@ -61,7 +61,7 @@ module _ (K : Rules) where
   unfolding performBy
   places-by c p e = go (verdict K (blocks K) (soundBy K p) c (view p))
     where
-      go : (v : Option ℤ) → length (decide p v (settled p (act K (blocks K) c (view p))) .state .queue .entries) ≡ most-tasks
+      go : (v : Option Refusal) → length (decide p v (settled p (act K (blocks K) c (view p))) .state .queue .entries) ≡ most-tasks
       go (some k) = e
       go none = pad-length noEntry most-tasks (act K (blocks K) c (view p) .state .queue)
 
@@ -69,46 +69,104 @@ module _ (K : Rules) where
 
   -- what is answered, by the verdict
   data Answered (c : Call) (p : Stored) : Type 0 where
-    refusing : (k : ℤ) → verdict K (blocks K) (soundBy K p) c (view p) ≡ some k → performBy K c p ≡ refuse p k → Answered c p
+    refusing : (k : Refusal) → verdict K (blocks K) (soundBy K p) c (view p) ≡ some k → performBy K c p ≡ refuse p k → Answered c p
     doing : verdict K (blocks K) (soundBy K p) c (view p) ≡ none → performBy K c p ≡ settled p (act K (blocks K) c (view p)) → Answered c p
 
   answered : (c : Call) (p : Stored) → Answered c p
   unfolding performBy
   answered c p = go (verdict K (blocks K) (soundBy K p) c (view p)) refl
     where
-      go : (v : Option ℤ) → verdict K (blocks K) (soundBy K p) c (view p) ≡ v → Answered c p
+      go : (v : Option Refusal) → verdict K (blocks K) (soundBy K p) c (view p) ≡ v → Answered c p
       go (some k) e = refusing k e (rw e)
       go none e = doing e (rw e)
 
-  verdict-negative : (c : Call) (p : Stored) (k : ℤ) → verdict K (blocks K) (soundBy K p) c (view p) ≡ some k → refusedBy k ≡ some k
-  unfolding refusedBy
-  verdict-negative c p k e =
-      by (soundBy K p)
-      (λ h. let q : tests K (blocks K) c (view p) ≡ some k = rw h at e in negative-code k (rw q at (tests-negative K (blocks K) c (view p))) .0)
-      (λ h. let q : some e-sys ≡ some k = rw h at e in let r : e-sys ≡ k = cc in rw (← r))
+  verdict-refuses : (c : Call) (p : Stored) (k : Refusal) → verdict K (blocks K) (soundBy K p) c (view p) ≡ some k → refuses (k .code) ≡ true
+  verdict-refuses c p k e = refused-code K (blocks K) (soundBy K p) c (view p) k (verdict-refused K (blocks K) (soundBy K p) c (view p) k e)
 
-  done-code : (c : Call) (p : Stored) → performBy K c p ≡ settled p (act K (blocks K) c (view p)) → refusedBy (performBy K c p .said .code) ≡ none
-  done-code c p g = ap (λ (a : Reply Stored). refusedBy (a .said .code)) g ∙ act-code K (blocks K) c (view p)
+  refused-said : (c : Call) (p : Stored) (k : Refusal) → verdict K (blocks K) (soundBy K p) c (view p) ≡ some k → performBy K c p ≡ refuse p k → refusedBy (performBy K c p .said) ≡ some k
+  refused-said c p k v g = ap (λ (a : Reply Stored). refusedBy (a .said)) g ∙ rw (verdict-refuses c p k v)
 
-  pub refusal-keeps : (c : Call) (p : Stored) (k : ℤ) → refusedBy (performBy K c p .said .code) ≡ some k → performBy K c p ≡ refuse p k
+  done-said : (c : Call) (p : Stored) → performBy K c p ≡ settled p (act K (blocks K) c (view p)) → refusedBy (performBy K c p .said) ≡ none
+  done-said c p g = ap (λ (a : Reply Stored). refusedBy (a .said)) g ∙ act-code K (blocks K) c (view p)
+
+  pub refusal-keeps : (c : Call) (p : Stored) (k : Refusal) → refusedBy (performBy K c p .said) ≡ some k → performBy K c p ≡ refuse p k
   refusal-keeps c p k e = go (answered c p)
     where
       go : Answered c p → performBy K c p ≡ refuse p k
-      go (doing v g) = no-some (sym e ∙ done-code c p g)
-      go (refusing j v g) = let q : some j ≡ some k = sym (verdict-negative c p j v) ∙ (sym (ap (λ (a : Reply Stored). refusedBy (a .said .code)) g) ∙ e) in let r : j ≡ k = cc in g ∙ ap (λ (x : ℤ). refuse p x) r
+      go (doing v g) = no-some (sym e ∙ done-said c p g)
+      go (refusing j v g) = let q : some j ≡ some k = sym (refused-said c p j v g) ∙ e in let r : j ≡ k = cc in g ∙ ap (λ (x : Refusal). refuse p x) r
 
-  pub refusal-when : (c : Call) (p : Stored) (k : ℤ) → (refusedBy (performBy K c p .said .code) ≡ some k) ↔ Refused K (blocks K) (soundBy K p) (view p) c k
+  pub refusal-when : (c : Call) (p : Stored) (k : Refusal) → (refusedBy (performBy K c p .said) ≡ some k) ↔ Refused K (blocks K) (soundBy K p) (view p) c k
   refusal-when c p k = (λ e. go e (answered c p), λ o. back (refused-verdict K (blocks K) (soundBy K p) c (view p) k o) (answered c p))
     where
-      go : refusedBy (performBy K c p .said .code) ≡ some k → Answered c p → Refused K (blocks K) (soundBy K p) (view p) c k
-      go e (doing v g) = no-some (sym e ∙ done-code c p g)
-      go e (refusing j v g) =
-          let q : some j ≡ some k = sym (verdict-negative c p j v) ∙ (sym (ap (λ (a : Reply Stored). refusedBy (a .said .code)) g) ∙ e) in
-          verdict-refused K (blocks K) (soundBy K p) c (view p) k (v ∙ q)
+      go : refusedBy (performBy K c p .said) ≡ some k → Answered c p → Refused K (blocks K) (soundBy K p) (view p) c k
+      go e (doing v g) = no-some (sym e ∙ done-said c p g)
+      go e (refusing j v g) = verdict-refused K (blocks K) (soundBy K p) c (view p) k (v ∙ (sym (refused-said c p j v g) ∙ e))
 
-      back : verdict K (blocks K) (soundBy K p) c (view p) ≡ some k → Answered c p → refusedBy (performBy K c p .said .code) ≡ some k
+      back : verdict K (blocks K) (soundBy K p) c (view p) ≡ some k → Answered c p → refusedBy (performBy K c p .said) ≡ some k
       back e (doing v g) = no-some (sym e ∙ v)
-      back e (refusing j v g) = ap (λ (a : Reply Stored). refusedBy (a .said .code)) g ∙ (verdict-negative c p j v ∙ (sym v ∙ e))
+      back e (refusing j v g) = refused-said c p j v g ∙ (sym v ∙ e)
+
+  -- ---- reasons
+
+  -- a call that is carried out has none
+  pub done-no-reason : (c : Call) (p : Stored) → refusedBy (performBy K c p .said) ≡ none → (performBy K c p .said .reason ≡ 0) × (performBy K c p .said .place ≡ noPlace)
+  done-no-reason c p e = go (answered c p)
+    where
+      go : Answered c p → (performBy K c p .said .reason ≡ 0) × (performBy K c p .said .place ≡ noPlace)
+      go (doing v g) = let a = act-no-reason K (blocks K) c (view p) in (rw g (a .0), rw g (a .1))
+      go (refusing j v g) = no-some (sym (refused-said c p j v g) ∙ e)
+
+  module _ (o : BlockOffset) (p : Stored) where
+    abbrev asked : Reply Stored
+    asked = performBy K (release o) p
+
+    -- a release is refused exactly if there is a reason or the state is not sound
+    pub release-refused : (refuses (asked .said .code) ≡ true) ↔ (((asked .said .reason ≡ 0) → ⊥) ⊎ (soundBy K p ≡ false))
+    unfolding tests
+    release-refused = (λ e. to e (answered (release o) p), λ e. from e (answered (release o) p))
+      where
+        to : refuses (asked .said .code) ≡ true → Answered (release o) p → ((asked .said .reason ≡ 0) → ⊥) ⊎ (soundBy K p ≡ false)
+        to e (doing v g) = clash (refuses (asked .said .code)) e (rw g (done-code K (blocks K) (release o) (view p)))
+        to e (refusing j v g) =
+            by (soundBy K p)
+            (λ h. inl (λ z. misplaced-because K (blocks K) o (view p .pool) j (rw h at v) .some-reason (sym (ap (λ (a : Reply Stored). a .said .reason) g) ∙ z)))
+            (λ h. inr h)
+
+        from : ((asked .said .reason ≡ 0) → ⊥) ⊎ (soundBy K p ≡ false) → Answered (release o) p → refuses (asked .said .code) ≡ true
+        from e (refusing j v g) = rw g (verdict-refuses (release o) p j v)
+        from (inl e) (doing v g) = absurd (e (rw g (act-no-reason K (blocks K) (release o) (view p) .0)))
+        from (inr e) (doing v g) = no-some (rw e at v)
+
+    -- in a sound state: exactly if the offset is not that of a live block
+    pub release-refused-live : soundBy K p ≡ true → (refuses (asked .said .code) ≡ true) ↔ (isLive K (blocks K) o (view p .pool) ≡ false)
+    unfolding tests
+    release-refused-live h = (λ e. to e (answered (release o) p), λ e. from e (answered (release o) p))
+      where
+        to : refuses (asked .said .code) ≡ true → Answered (release o) p → isLive K (blocks K) o (view p .pool) ≡ false
+        to e (doing v g) = clash (refuses (asked .said .code)) e (rw g (done-code K (blocks K) (release o) (view p)))
+        to e (refusing j v g) =
+            by (isLive K (blocks K) o (view p .pool))
+            (λ l. let u : misplaced K (blocks K) o (view p .pool) ≡ some j = rw h at v in
+            no-some (sym u ∙ live-released K (blocks K) (block-laws K) o (view p .pool) (open-sound K (blocks K) (view p) (open-stored p h .0) .pool) l))
+            (λ l. l)
+
+        from : isLive K (blocks K) o (view p .pool) ≡ false → Answered (release o) p → refuses (asked .said .code) ≡ true
+        from e (refusing j v g) = rw g (verdict-refuses (release o) p j v)
+        from e (doing v g) =
+            let u : misplaced K (blocks K) o (view p .pool) ≡ none = rw h at v in
+            clash (isLive K (blocks K) o (view p .pool)) (released-live K (blocks K) o (view p .pool) u) e
+
+    -- with the reasons 3 and 4 the place is the header of the one block that holds the offset
+    pub release-place : already-free ≤ asked .said .reason → OneHolder (o .0) (blocksOf (p .bytes)) (asked .said .place .0)
+    unfolding view
+    release-place n = go (answered (release o) p)
+      where
+        go : Answered (release o) p → OneHolder (o .0) (blocksOf (p .bytes)) (asked .said .place .0)
+        go (doing v g) = absurd (omega (arith, n, ap (λ (a : Reply Stored). a .said .reason) g, act-no-reason K (blocks K) (release o) (view p) .0))
+        go (refusing j v g) =
+            rw g (held-at K o (view p) (λ h. open-sound K (blocks K) (view p) (open-stored p h .0) .pool) j (verdict-refused K (blocks K) (soundBy K p) (release o) (view p) j v)
+            (omega (arith, n, ap (λ (a : Reply Stored). a .said .reason) g)))
 
 -- ---- grants add headers and take none away
 
@@ -138,7 +196,7 @@ module _ (K : Rules) (L : Laws K) where
   unfolding act
   cancel-finer t s h = go (tests K (blocks K) (cancel t) s) refl
     where
-      go : (v : Option ℤ) → tests K (blocks K) (cancel t) s ≡ v → Finer (s .pool) (step K (blocks K) (cancel t) s .state .pool)
+      go : (v : Option Refusal) → tests K (blocks K) (cancel t) s ≡ v → Finer (s .pool) (step K (blocks K) (cancel t) s .state .pool)
       go (some k) e = rw (step-refused K (blocks K) (cancel t) s k (verdict-sound K (blocks K) (cancel t) s h ∙ e)) (finer-refl (s .pool))
       go none e =
           rw (step-done K (blocks K) (cancel t) s (verdict-sound K (blocks K) (cancel t) s h ∙ e))
@@ -225,7 +283,7 @@ module _ (R : ℕ → Rules) (law : (n : ℕ) → Laws (R n)) (long-is : (n : �
     shown-sound : (p : Stored) (s : State (List Block)) → Shown p s → sound K B s ≡ true
     shown-sound p s o = rw (o .is) at (open-stored K p (rw (o .long) at (o .good)) .0)
 
-    perform-refused : (c : Call) (p : Stored) (s : State (List Block)) (k : ℤ) → Shown p s → tests K B c s ≡ some k → perform R c p ≡ refuse p k
+    perform-refused : (c : Call) (p : Stored) (s : State (List Block)) (k : Refusal) → Shown p s → tests K B c s ≡ some k → perform R c p ≡ refuse p k
     perform-refused c p s k o e = rw (o .long) (by-refused K c p k (rw (o .long) at (o .good)) (rw (o .is) e))
 
     perform-done : (c : Call) (p : Stored) (s : State (List Block)) → Shown p s → tests K B c s ≡ none → perform R c p ≡ settled p (act K B c s)
@@ -241,7 +299,7 @@ module _ (R : ℕ → Rules) (law : (n : ℕ) → Laws (R n)) (long-is : (n : �
         h : sound K B s ≡ true
         h = shown-sound p s o
 
-        go : (v : Option ℤ) → tests K B c s ≡ v → Next c p s
+        go : (v : Option Refusal) → tests K B c s ≡ v → Next c p s
         go (some k) e =
             let g = perform-refused c p s k o e in
             let u = step-refused K B c s k (verdict-sound K B c s h ∙ e) in
@@ -267,7 +325,7 @@ module _ (R : ℕ → Rules) (law : (n : ℕ) → Laws (R n)) (long-is : (n : �
         h : sound K B s ≡ true
         h = shown-sound p s (o .shown)
 
-        go : (v : Option ℤ) → tests K B c s ≡ v → Shows b (perform R c p .state) (step K B c s .state)
+        go : (v : Option Refusal) → tests K B c s ≡ v → Shows b (perform R c p .state) (step K B c s .state)
         go (some k) e = rw (perform-refused c p s k (o .shown) e, step-refused K B c s k (verdict-sound K B c s h ∙ e)) o
         go none e =
             let g = perform-done c p s (o .shown) e in
@@ -342,7 +400,7 @@ module _ (R : ℕ → Rules) (law : (n : ℕ) → Laws (R n)) (long-is : (n : �
       B : Store (List Block)
       B = blocks K
 
-      go : (v : Option ℤ) → tests K B c (view p) ≡ v → length (perform R c p .said .woken) ≤ most-tasks
+      go : (v : Option Refusal) → tests K B c (view p) ≡ v → length (perform R c p .said .woken) ≤ most-tasks
       go (some k) e = rw (by-refused K c p k h e) (omega arith)
       go none e =
           rw (by-done K c p h e) (omega (arith, woken-length K B (law (length (p .bytes))) (block-laws K) c (view p) (open-stored K p h .0) e, law (length (p .bytes)) .tasks-most))

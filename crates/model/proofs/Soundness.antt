@@ -12,7 +12,7 @@ use borrow.Author.Tests.{le-leb, eqb-false}
 use Rattle.model.specs.Limits.{e-par, e-id, e-ctx, e-obj, e-tmout}
 use Rattle.model.specs.Waiting.{Entry, waits, remove, insert, blocked, okLeft, expired, remaining}
 use Rattle.model.specs.Rules.{Rules, Laws, okTask, queued}
-use Rattle.model.specs.Calls.{placeOf, Request, Call, get, release, cancel, tick, inquire, refuse, deny, okLimit, isPoll, leftOf, entryOf, leave, Store, State, state, fitting, given, serve, headStuck, sound, goes, tests, verdict, act, step}
+use Rattle.model.specs.Calls.{placeOf, Request, Call, get, release, cancel, tick, inquire, Refusal, plain, refuse, deny, okLimit, isPoll, leftOf, entryOf, leave, Store, State, state, fitting, given, serve, headStuck, sound, goes, tests, verdict, act, step}
 use Rattle.model.proofs.Tests.{by, and-l, and-r, and-i, not-t, not-f}
 use Rattle.model.proofs.Waiting.{Asked, asked, entry-asked, open-queued, insert-queued, remove-queued, remaining-queued, queued-length, remove-count, expired-count}
 use Rattle.model.proofs.Store.{StoreLaws}
@@ -20,11 +20,11 @@ use Rattle.model.proofs.Serving.{serve-ends, serve-count}
 
 -- ---- the tests, opened
 
-pub no-some : {X : Type 0} {c : ℤ} → some c ≡ none → X
+pub no-some : {A X : Type 0} {c : A} → some c ≡ none → X
 no-some e = absurd (let z : _≡_ {A = ℕ} 0 1 = cc in omega arith)
 
 -- a test that was passed
-pub past : (b : Bool) (c : ℤ) (rest : Option ℤ) → deny b c rest ≡ none → (b ≡ false) × (rest ≡ none)
+pub past : {A : Type 0} (b : Bool) (c : A) (rest : Option A) → deny b c rest ≡ none → (b ≡ false) × (rest ≡ none)
 past true c rest e = no-some e
 past false c rest e = (refl, e)
 
@@ -72,10 +72,10 @@ module _ (K : Rules) {P : Type 0} (E : Store P) where
   passed r s e =
       let a = K .allowed (entryOf r) in
       let b = okLimit (r .limit) in
-      let p = past (not (okTask K (r .task))) e-id _ e in
-      let q = past (not (a && b)) e-par _ (p .1) in
-      let w = past (waits (r .task) (s .queue)) e-ctx _ (q .1) in
-      let g = past (isPoll (r .limit) && not (goes K E (entryOf r) s)) e-tmout _ (w .1) in
+      let p = past (not (okTask K (r .task))) (plain e-id) _ e in
+      let q = past (not (a && b)) (plain e-par) _ (p .1) in
+      let w = past (waits (r .task) (s .queue)) (plain e-ctx) _ (q .1) in
+      let g = past (isPoll (r .limit) && not (goes K E (entryOf r) s)) (plain e-tmout) _ (w .1) in
       let ab = not-f (a && b) (q .0) in
       record {
         task = not-f (okTask K (r .task)) (p .0);
@@ -90,11 +90,11 @@ module _ (K : Rules) {P : Type 0} (E : Store P) where
 
   pub passed-cancel : (t : ℕ) (s : State P) → tests K E (cancel t) s ≡ none → waits t (s .queue) ≡ true
   unfolding tests
-  passed-cancel t s e = let p = past (not (okTask K t)) e-id _ e in not-f (waits t (s .queue)) (past (not (waits t (s .queue))) e-obj _ (p .1) .0)
+  passed-cancel t s e = let p = past (not (okTask K t)) (plain e-id) _ e in not-f (waits t (s .queue)) (past (not (waits t (s .queue))) (plain e-obj) _ (p .1) .0)
 
   -- ---- a call is refused, or carried out
 
-  pub step-refused : (c : Call) (s : State P) (k : ℤ) → verdict K E (sound K E s) c s ≡ some k → step K E c s ≡ refuse s k
+  pub step-refused : (c : Call) (s : State P) (k : Refusal) → verdict K E (sound K E s) c s ≡ some k → step K E c s ≡ refuse s k
   unfolding step
   step-refused c s k e = rw e
 
@@ -170,7 +170,7 @@ module _ (K : Rules) {P : Type 0} (E : Store P) where
     pub step-sound : (c : Call) (s : State P) → sound K E s ≡ true → sound K E (step K E c s .state) ≡ true
     step-sound c s h = go (tests K E c s) refl
       where
-        go : (v : Option ℤ) → tests K E c s ≡ v → sound K E (step K E c s .state) ≡ true
+        go : (v : Option Refusal) → tests K E c s ≡ v → sound K E (step K E c s .state) ≡ true
         go none e = rw (step-done c s (verdict-sound c s h ∙ e)) (act-sound c s h e)
         go (some k) e = rw (step-refused c s k (verdict-sound c s h ∙ e)) h
 

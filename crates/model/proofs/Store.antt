@@ -1,20 +1,25 @@
 -- What the theorems ask of a store, and that the block list meets it. Assumes nothing.
-use Prim.Native.Nat.{ℕ, _%_, _≤_}
+use Prim.Native.Nat.{ℕ, _+_, _%_, _≤_, _<_}
 use mathlib.Core.Path.{_≡_, _∙_}
-use mathlib.Core.Bool.{true, false}
+use mathlib.Core.Bool.{true, false, not}
 use mathlib.Core.List.{List}
+use native.Mathlib.Omega.{arith}
 use lib.Dec.{eqb}
 use borrow.Author.Tests.{eqb-true, eq-eqb}
-use Rattle.model.specs.Blocks.{Block, total, tiled, granted, freed}
+use Rattle.model.specs.Blocks.{Block, isFree, total, tiled, granted, freed}
 use Rattle.model.specs.Rules.{Rules}
 use Rattle.model.specs.Calls.{HeaderPlace, Store, blocks}
 use Rattle.model.proofs.Tests.{and-l, and-r, and-i}
-use Rattle.model.proofs.Blocks.{granted-fits, granted-total, granted-tiled, freed-total, freed-tiled, granted-live, granted-freed}
+use Rattle.model.proofs.Blocks.{granted-fits, granted-total, granted-tiled, freed-total, freed-tiled, granted-live, granted-freed, starts, live-not-free}
 
 pub record StoreLaws (K : Rules) {P : Type 0} (E : Store P) : Type 0 where
   -- a grant makes no run
   pub grant-fits : (n t m : ℕ) (p : P) → E .fits m p ≡ false → E .fits m (E .grant n t p) ≡ false
   pub grant-sound : (n t : ℕ) (p : P) → n % 4 ≡ 0 → 12 ≤ n → 1 ≤ t → t ≤ K .tasks → E .sound p ≡ true → E .sound (E .grant n t p) ≡ true
+  -- a live block's offset is in range and a multiple of 4, and the block is not free
+  pub live-within : (a : HeaderPlace) (p : P) → E .sound p ≡ true → E .live a p ≡ true → a .0 + 8 < K .long
+  pub live-aligned : (a : HeaderPlace) (p : P) → E .sound p ≡ true → E .live a p ≡ true → a .0 % 4 ≡ 0
+  pub live-busy : (a : HeaderPlace) (p : P) → E .live a p ≡ true → E .idle a p ≡ false
   pub free-sound : (a : HeaderPlace) (p : P) → E .sound p ≡ true → E .sound (E .free a p) ≡ true
   -- a granted block is live, and its release undoes the grant
   pub grant-live : (n t : ℕ) (p : P) → 1 ≤ t → E .sound p ≡ true → E .fits n p ≡ true → E .live (E .place n p) (E .grant n t p) ≡ true
@@ -45,6 +50,9 @@ module _ (K : Rules) where
         grant-sound = λ n t bs n4 n12 t1 tk h.
             let o = open-blocks bs h in
             close-blocks (granted n t bs) (record { sums = granted-total n t bs ∙ o .sums; tiling = granted-tiled (K .tasks) n t n4 n12 t1 tk false bs (o .tiling) });
+        live-within = λ a bs h l. let o = open-blocks bs h in omega (arith, starts (K .tasks) (λ b. not (isFree b)) (a .0) false bs (o .tiling) l .within, o .sums);
+        live-aligned = λ a bs h l. starts (K .tasks) (λ b. not (isFree b)) (a .0) false bs (open-blocks bs h .tiling) l .by-four;
+        live-busy = λ a bs l. live-not-free (a .0) bs l;
         free-sound = λ a bs h.
             let o = open-blocks bs h in
             close-blocks (freed (a .0) bs) (record { sums = freed-total (a .0) bs ∙ o .sums; tiling = freed-tiled (K .tasks) false (a .0) bs (o .tiling) });

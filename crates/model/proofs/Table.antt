@@ -6,13 +6,13 @@ use mathlib.Core.List.{List, [], _∷_}
 use mathlib.Core.Option.{some}
 use lib.ListN.{length, replicate}
 use lib.Dec.{ltb}
-use Rattle.model.specs.Limits.{forever, minus, e-ok, waiting, e-sys, e-par}
-use Rattle.model.specs.Blocks.{Block, block, total, tiled, fits, firstFit, carve, granted, liveAt, join, freed, sumFree, greatestFree}
+use Rattle.model.specs.Limits.{forever, minus, e-ok, waiting, e-sys, inside-block}
+use Rattle.model.specs.Blocks.{Block, block, total, tiled, fits, firstFit, carve, granted, startsAt, holder, join, freed, sumFree, greatestFree}
 use Rattle.model.specs.Bytes.{blocksFrom, le32, header, overlay, written, mask, render, erase}
 use Rattle.model.specs.Waiting.{Entry, waits, remove, headTask, insert, blocked, leads, expired, remaining}
 use Rattle.model.specs.Rules.{queued, base}
-use Rattle.model.specs.Calls.{Request, get, tick, leave, blocks, serve, headStuck, sound, tests, act}
-use Rattle.model.specs.Runs.{refusedBy}
+use Rattle.model.specs.Calls.{Request, get, tick, plain, because, leave, blocks, serve, headStuck, sound, tests, act}
+use Rattle.model.specs.Runs.{refuses, refusedBy}
 use Rattle.model.specs.Places.{pad, used, allUnused, tidy, queueOf}
 use Rattle.model.specs.Pool.{Stored, stored, view, soundBy, performBy, isSound, perform, create}
 use Rattle.model.specs.Table.{linesFrom, stateFrom, playedAll, fresh, at, to-c, to-e, blocks-c, queue-e, table}
@@ -20,7 +20,7 @@ use Rattle.model.specs.Table.{linesFrom, stateFrom, playedAll, fresh, at
 -- ---- the table of document 01's examples
 
 pub table-holds : playedAll table ≡ table
-unfolding total tiled fits firstFit carve granted liveAt join freed sumFree greatestFree blocksFrom le32 header overlay written mask render erase waits remove headTask insert blocked leads expired remaining queued base leave serve headStuck sound tests act pad used allUnused tidy view soundBy performBy create linesFrom stateFrom playedAll
+unfolding total tiled fits firstFit carve granted startsAt holder join freed sumFree greatestFree blocksFrom le32 header overlay written mask render erase waits remove headTask insert blocked leads expired remaining queued base leave serve headStuck sound tests act pad used allUnused tidy view soundBy performBy create linesFrom stateFrom playedAll
 table-holds = refl
 
 -- ---- bytes, by a test
@@ -66,11 +66,11 @@ pub record Met : Type 0 where
   pub list-e : queued (base 64) queue-e ≡ true
   pub told : perform base (get (ask 3 12)) state-c .said .code ≡ waiting
   pub granted : perform base (get (ask 3 4)) state-c .said .code ≡ e-ok
-  pub refused : refusedBy (perform base (at 12) state-c .said .code) ≡ some e-par
-  pub refused-spoiled : refusedBy (perform base tick spoiled .said .code) ≡ some e-sys
+  pub refused : refusedBy (perform base (at 12) state-c .said) ≡ some (because inside-block (record { 0 = 0 }))
+  pub refused-spoiled : refusedBy (perform base tick spoiled .said) ≡ some (plain e-sys)
 
 pub met : Met
-unfolding total tiled fits firstFit carve granted liveAt join freed sumFree greatestFree blocksFrom le32 header overlay written mask render erase waits remove headTask insert blocked leads expired remaining queued base leave serve headStuck sound tests act pad used allUnused tidy view soundBy performBy create stateFrom refusedBy below
+unfolding total tiled fits firstFit carve granted startsAt holder join freed sumFree greatestFree blocksFrom le32 header overlay written mask render erase waits remove headTask insert blocked leads expired remaining queued base leave serve headStuck sound tests act pad used allUnused tidy view soundBy performBy create stateFrom refuses below
 met =
     record {
       valid = refl;

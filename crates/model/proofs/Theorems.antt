@@ -2,22 +2,21 @@
 use Prim.Native.Nat.{ℕ, _≤_}
 use mathlib.Core.Path.{_≡_, _∙_}
 use mathlib.Core.Bool.{true, false}
-use mathlib.Core.Logic.{_↔_}
+use mathlib.Core.Logic.{_↔_, _⊎_}
 use mathlib.Core.List.{List}
-use mathlib.Core.Option.{some}
+use mathlib.Core.Option.{none, some}
 use native.Mathlib.Omega.{arith}
 use lib.ListN.{length}
-use lib.IntN.{ℤ}
-use Rattle.model.specs.Limits.{most-tasks, e-ok, waiting}
+use Rattle.model.specs.Limits.{most-tasks, e-ok, waiting, already-free}
 use Rattle.model.specs.Blocks.{Block}
 use Rattle.model.specs.Waiting.{Entry}
 use Rattle.model.specs.Rules.{Rules, Laws, queued, base}
-use Rattle.model.specs.Calls.{Request, Call, get, refuse, entryOf, blocks, step}
+use Rattle.model.specs.Calls.{BlockOffset, noPlace, Request, Call, get, release, Refusal, refuse, entryOf, blocks, isLive, step}
 use Rattle.model.specs.Refusals.{Refused}
-use Rattle.model.specs.Runs.{after, run, refusedBy, Others, Ranked}
+use Rattle.model.specs.Runs.{after, run, refuses, refusedBy, Others, Ranked}
 use Rattle.model.specs.Bytes.{blocksOf, render}
 use Rattle.model.specs.Places.{entriesOf, queueOf}
-use Rattle.model.specs.Demands.{Seen, NoTrace, undo, Undone}
+use Rattle.model.specs.Demands.{Seen, NoTrace, undo, Undone, OneHolder}
 use Rattle.model.specs.Pool.{Stored, Typed, view, rulesOf, isSound, perform, create}
 use Rattle.model.proofs.Bytes.{blocks-render, render-blocks}
 use Rattle.model.proofs.Places.{queued-live, used-pad, queue-entries}
@@ -43,12 +42,29 @@ module _ (R : ℕ → Rules) (law : (n : ℕ) → Laws (R n)) (long-is : (n : �
   -- ---- demand 1, for any bytes, queue and numbers
 
   -- a code other than 0 and 1 comes with offset 0 and nobody woken, and leaves every byte and the queue
-  pub refusal-keeps : (c : Call) (p : Stored) (k : ℤ) → refusedBy (perform R c p .said .code) ≡ some k → perform R c p ≡ refuse p k
+  pub refusal-keeps : (c : Call) (p : Stored) (k : Refusal) → refusedBy (perform R c p .said) ≡ some k → perform R c p ≡ refuse p k
   refusal-keeps c p k e = P.refusal-keeps (rulesOf R p) c p k e
 
   -- and is answered exactly as the table of refusals says
-  pub refusal-when : (c : Call) (p : Stored) (k : ℤ) → (refusedBy (perform R c p .said .code) ≡ some k) ↔ Refused (rulesOf R p) (blocks (rulesOf R p)) (isSound R p) (view p) c k
+  pub refusal-when : (c : Call) (p : Stored) (k : Refusal) → (refusedBy (perform R c p .said) ≡ some k) ↔ Refused (rulesOf R p) (blocks (rulesOf R p)) (isSound R p) (view p) c k
   refusal-when c p k = P.refusal-when (rulesOf R p) c p k
+
+  -- a release is refused exactly if there is a reason or the state is not sound; every call that is not refused has none
+  pub release-refused-when : (o : BlockOffset) (p : Stored)
+      → (refuses (perform R (release o) p .said .code) ≡ true) ↔ (((perform R (release o) p .said .reason ≡ 0) → ⊥) ⊎ (isSound R p ≡ false))
+  release-refused-when o p = P.release-refused (rulesOf R p) o p
+
+  pub done-no-reason : (c : Call) (p : Stored) → refusedBy (perform R c p .said) ≡ none → (perform R c p .said .reason ≡ 0) × (perform R c p .said .place ≡ noPlace)
+  done-no-reason c p e = P.done-no-reason (rulesOf R p) c p e
+
+  -- in a sound state: exactly if the offset is not that of a live block
+  pub release-refused-live : (o : BlockOffset) (p : Stored) → isSound R p ≡ true
+      → (refuses (perform R (release o) p .said .code) ≡ true) ↔ (isLive (rulesOf R p) (blocks (rulesOf R p)) o (view p .pool) ≡ false)
+  release-refused-live o p h = P.release-refused-live (rulesOf R p) o p h
+
+  -- with the reasons 3 and 4 the place is the header of the one block whose bytes hold the offset
+  pub release-place : (o : BlockOffset) (p : Stored) → already-free ≤ perform R (release o) p .said .reason → OneHolder (o .0) (blocksOf (p .bytes)) (perform R (release o) p .said .place .0)
+  release-place o p h = P.release-place (rulesOf R p) o p h
 
   -- ---- demand 2
 
@@ -107,11 +123,25 @@ base-call-sound = call-sound base base-laws base-long
 pub base-run-sound : (p : Stored) (cs : List Call) → isSound base p ≡ true → isSound base (after (perform base) p cs) ≡ true
 base-run-sound = run-sound base base-laws base-long
 
-pub base-refusal-keeps : (c : Call) (p : Stored) (k : ℤ) → refusedBy (perform base c p .said .code) ≡ some k → perform base c p ≡ refuse p k
+pub base-refusal-keeps : (c : Call) (p : Stored) (k : Refusal) → refusedBy (perform base c p .said) ≡ some k → perform base c p ≡ refuse p k
 base-refusal-keeps = refusal-keeps base base-laws base-long
 
-pub base-refusal-when : (c : Call) (p : Stored) (k : ℤ) → (refusedBy (perform base c p .said .code) ≡ some k) ↔ Refused (rulesOf base p) (blocks (rulesOf base p)) (isSound base p) (view p) c k
+pub base-refusal-when : (c : Call) (p : Stored) (k : Refusal) → (refusedBy (perform base c p .said) ≡ some k) ↔ Refused (rulesOf base p) (blocks (rulesOf base p)) (isSound base p) (view p) c k
 base-refusal-when = refusal-when base base-laws base-long
+
+pub base-release-refused-when : (o : BlockOffset) (p : Stored)
+    → (refuses (perform base (release o) p .said .code) ≡ true) ↔ (((perform base (release o) p .said .reason ≡ 0) → ⊥) ⊎ (isSound base p ≡ false))
+base-release-refused-when = release-refused-when base base-laws base-long
+
+pub base-done-no-reason : (c : Call) (p : Stored) → refusedBy (perform base c p .said) ≡ none → (perform base c p .said .reason ≡ 0) × (perform base c p .said .place ≡ noPlace)
+base-done-no-reason = done-no-reason base base-laws base-long
+
+pub base-release-refused-live : (o : BlockOffset) (p : Stored) → isSound base p ≡ true
+    → (refuses (perform base (release o) p .said .code) ≡ true) ↔ (isLive (rulesOf base p) (blocks (rulesOf base p)) o (view p .pool) ≡ false)
+base-release-refused-live = release-refused-live base base-laws base-long
+
+pub base-release-place : (o : BlockOffset) (p : Stored) → already-free ≤ perform base (release o) p .said .reason → OneHolder (o .0) (blocksOf (p .bytes)) (perform base (release o) p .said .place .0)
+base-release-place = release-place base base-laws base-long
 
 pub base-call-seen : (c : Call) (p : Stored) → isSound base p ≡ true → Seen base c p
 base-call-seen = call-seen base base-laws base-long

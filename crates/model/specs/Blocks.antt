@@ -2,7 +2,7 @@
 use Prim.Native.Nat.{ℕ, _+_, _-_, _%_, max}
 use mathlib.Core.Bool.{Bool, true, false, not, cond, _&&_, _||_}
 use mathlib.Core.List.{List, [], _∷_}
-use lib.Dec.{leb, eqb}
+use lib.Dec.{leb, ltb, eqb}
 
 -- A block's size, header included, and its owner: 0 is free, any other number is that task. The *block list* is that of each block, in order from 0.
 pub record Block : Type 0 where
@@ -56,10 +56,21 @@ granted n t (b ∷ bs) = cond (holds n b) (carve n t b bs) (b ∷ granted n t bs
 
 -- ---- release
 
--- a live block has its header at the place p. Only the walk from 0 counts.
-unfoldable pub liveAt : ℕ → List Block → Bool
-liveAt p [] = false
-liveAt p (b ∷ bs) = cond (eqb p 0) (not (isFree b)) (leb (b .size) p && liveAt (p - b .size) bs)
+-- a block that passes the test has its header at the place p. Only the walk from 0 counts.
+unfoldable pub startsAt : (Block → Bool) → ℕ → List Block → Bool
+startsAt test p [] = false
+startsAt test p (b ∷ bs) = cond (eqb p 0) (test b) (leb (b .size) p && startsAt test (p - b .size) bs)
+
+abbrev pub liveAt : ℕ → List Block → Bool
+liveAt p bs = startsAt (λ b. not (isFree b)) p bs
+
+abbrev pub freeAt : ℕ → List Block → Bool
+freeAt p bs = startsAt isFree p bs
+
+-- the place of the header of the block that holds the byte i; past the last block, where it ends
+unfoldable pub holder : ℕ → List Block → ℕ
+holder i [] = 0
+holder i (b ∷ bs) = cond (ltb i (b .size)) 0 (b .size + holder (i - b .size) bs)
 
 -- the block b in front of others, one with the first of these if both are free
 unfoldable pub join : Block → List Block → List Block

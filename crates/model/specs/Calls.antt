@@ -1,15 +1,15 @@
 -- The calls, once, over what a pool can do: which test refuses a call, and what a call does that no test refuses.
-use Prim.Native.Nat.{ℕ, _+_, _-_}
+use Prim.Native.Nat.{ℕ, _+_, _-_, _%_}
 use mathlib.Core.Bool.{Bool, true, false, not, cond, _&&_}
 use mathlib.Core.List.{List, [], _∷_, _++_}
 use mathlib.Core.Option.{Option, none, some}
-use lib.Dec.{leb, eqb}
+use lib.Dec.{leb, ltb, eqb}
 use lib.IntN.{ℤ, pos, negsuc}
 pub use Rattle.model.specs.declared.BlockOffset.{BlockOffset}
 pub use Rattle.model.specs.declared.HeaderPlace.{HeaderPlace}
 pub use Rattle.model.specs.declared.Woken.{Woken}
-use Rattle.model.specs.Limits.{longest-limit, forever, e-ok, waiting, e-sys, e-par, e-id, e-ctx, e-obj, e-rlwai, e-tmout}
-use Rattle.model.specs.Blocks.{Block, total, tiled, fits, firstFit, granted, liveAt, freed, sumFree, greatestFree}
+use Rattle.model.specs.Limits.{longest-limit, forever, e-ok, waiting, e-sys, e-par, e-id, e-ctx, e-obj, e-rlwai, e-tmout, out-of-range, misaligned, already-free, inside-block}
+use Rattle.model.specs.Blocks.{Block, total, tiled, fits, firstFit, granted, liveAt, freeAt, holder, freed, sumFree, greatestFree}
 use Rattle.model.specs.Waiting.{Entry, waits, remove, headTask, insert, blocked, expired, remaining}
 use Rattle.model.specs.Rules.{Rules, okTask, queued}
 
@@ -25,6 +25,13 @@ placeOf o = record { 0 = o .0 - 8 }
 
 abbrev pub noOffset : BlockOffset
 noOffset = record { 0 = 0 }
+
+abbrev pub noPlace : HeaderPlace
+noPlace = record { 0 = 0 }
+
+-- an offset from the first block's on, and below the pool's length
+abbrev pub inRange : Rules → BlockOffset → Bool
+inRange K o = leb 8 (o .0) && ltb (o .0) (K .long)
 
 -- ---- calls and answers
 
@@ -45,10 +52,12 @@ pub data Call : Type 0 where
 abbrev pub poll : ℕ → ℕ → Call
 poll t n = get (record { task = t; size = n; limit = pos 0 })
 
--- All that a caller is told. Inquire's three numbers are 0 where a call does not give them.
+-- All that a caller is told. Reason and place are those of a refused release; they and inquire's three numbers are 0 where a call does not give them.
 pub record Said : Type 0 where
   pub code : ℤ
   pub offset : BlockOffset
+  pub reason : ℕ
+  pub place : HeaderPlace
   pub woken : List Woken
   pub sum : ℕ
   pub greatest : ℕ
@@ -60,21 +69,39 @@ pub record Reply (S : Type 0) : Type 0 where
   pub state : S
 
 abbrev pub says : ℤ → BlockOffset → List Woken → Said
-says c o ws = record { code = c; offset = o; woken = ws; sum = 0; greatest = 0; head = 0 }
+says c o ws = record { code = c; offset = o; reason = 0; place = noPlace; woken = ws; sum = 0; greatest = 0; head = 0 }
+
+-- what a refusal tells
+pub record Refusal : Type 0 where
+  pub code : ℤ
+  pub reason : ℕ
+  pub place : HeaderPlace
+
+-- by a code alone
+abbrev pub plain : ℤ → Refusal
+plain c = record { code = c; reason = 0; place = noPlace }
+
+-- of a release
+abbrev pub because : ℕ → HeaderPlace → Refusal
+because r a = record { code = e-par; reason = r; place = a }
 
 -- a refusal: offset 0, nobody woken, nothing changed
-abbrev pub refuse : {S : Type 0} → S → ℤ → Reply S
-refuse s c = record { said = says c noOffset []; state = s }
+abbrev pub refuse : {S : Type 0} → S → Refusal → Reply S
+refuse s x =
+    record {
+      said = record { code = x .code; offset = noOffset; reason = x .reason; place = x .place; woken = []; sum = 0; greatest = 0; head = 0 };
+      state = s;
+    }
 
--- refused by a code, or the reply of the call itself
-abbrev pub decide : {S : Type 0} → S → Option ℤ → Reply S → Reply S
-decide s (some c) r = refuse s c
+-- refused, or the reply of the call itself
+abbrev pub decide : {S : Type 0} → S → Option Refusal → Reply S → Reply S
+decide s (some x) r = refuse s x
 decide s none r = r
 
 -- the first test that fails decides
-abbrev pub deny : Bool → ℤ → Option ℤ → Option ℤ
-deny true c rest = some c
-deny false c rest = rest
+abbrev pub deny : {A : Type 0} → Bool → A → Option A → Option A
+deny true x rest = some x
+deny false x rest = rest
 
 -- a limit that may be asked
 abbrev pub okLimit : ℤ → Bool
@@ -103,13 +130,16 @@ leave c (t ∷ ts) = leaves c t ∷ leave c ts
 
 -- ---- the pool
 
--- What the calls ask of a pool, and do to it; sizes are those of blocks, header included.
+-- What the calls ask of a pool, and do to it; sizes are those of blocks, header included. `live`, `idle`: a live or a free block has its header at
+-- the place. `holder`: the header of the block whose bytes hold the offset.
 pub record Store (P : Type 0) : Type 0 where
   pub sound : P → Bool
   pub fits : ℕ → P → Bool
   pub place : ℕ → P → HeaderPlace
   pub grant : ℕ → ℕ → P → P
   pub live : HeaderPlace → P → Bool
+  pub idle : HeaderPlace → P → Bool
+  pub holder : BlockOffset → P → HeaderPlace
   pub free : HeaderPlace → P → P
   pub sum : P → ℕ
   pub greatest : P → ℕ
@@ -123,6 +153,8 @@ blocks K =
       place = λ n bs. record { 0 = firstFit n bs };
       grant = granted;
       live = λ p bs. liveAt (p .0) bs;
+      idle = λ p bs. freeAt (p .0) bs;
+      holder = λ o bs. record { 0 = holder (o .0) bs };
       free = λ p bs. freed (p .0) bs;
       sum = sumFree;
       greatest = greatestFree;
@@ -189,21 +221,29 @@ module _ (K : Rules) {P : Type 0} (E : Store P) where
   abbrev pub isLive : BlockOffset → P → Bool
   isLive o p = leb 8 (o .0) && E .live (placeOf o) p
 
+  -- why an offset is not that of a live block: the first that applies, with the header of the block that holds it
+  abbrev pub misplaced : BlockOffset → P → Option Refusal
+  misplaced o p =
+      deny (not (inRange K o)) (because out-of-range noPlace)
+      (deny (not (eqb (o .0 % 4) 0)) (because misaligned noPlace)
+      (deny (E .idle (placeOf o) p) (because already-free (placeOf o))
+      (deny (not (E .live (placeOf o) p)) (because inside-block (E .holder o p)) none)))
+
   -- the tests of a call in a sound state, in order
-  unfoldable pub tests : Call → State P → Option ℤ
+  unfoldable pub tests : Call → State P → Option Refusal
   tests (get r) s =
-      deny (not (okTask K (r .task))) e-id
-      (deny (not (K .allowed (entryOf r) && okLimit (r .limit))) e-par
-      (deny (waits (r .task) (s .queue)) e-ctx
-      (deny (isPoll (r .limit) && not (goes (entryOf r) s)) e-tmout none)))
-  tests (release o) s = deny (not (isLive o (s .pool))) e-par none
-  tests (cancel t) s = deny (not (okTask K t)) e-id (deny (not (waits t (s .queue))) e-obj none)
+      deny (not (okTask K (r .task))) (plain e-id)
+      (deny (not (K .allowed (entryOf r) && okLimit (r .limit))) (plain e-par)
+      (deny (waits (r .task) (s .queue)) (plain e-ctx)
+      (deny (isPoll (r .limit) && not (goes (entryOf r) s)) (plain e-tmout) none)))
+  tests (release o) s = misplaced o (s .pool)
+  tests (cancel t) s = deny (not (okTask K t)) (plain e-id) (deny (not (waits t (s .queue))) (plain e-obj) none)
   tests tick s = none
   tests inquire s = none
 
-  -- the code by which a call is refused, if any, given whether the state is sound
-  abbrev pub verdict : Bool → Call → State P → Option ℤ
-  verdict ok c s = deny (not ok) e-sys (tests c s)
+  -- how a call is refused, if it is, given whether the state is sound
+  abbrev pub verdict : Bool → Call → State P → Option Refusal
+  verdict ok c s = deny (not ok) (plain e-sys) (tests c s)
 
   -- ---- the calls that no test refuses
 
@@ -220,7 +260,7 @@ module _ (K : Rules) {P : Type 0} (E : Store P) where
   act tick s = wake (leave e-tmout (expired (s .queue))) (serve (s .pool) (remaining (s .queue)))
   act inquire s =
       record {
-        said = record { code = e-ok; offset = noOffset; woken = []; sum = E .sum (s .pool); greatest = E .greatest (s .pool); head = headTask (s .queue) };
+        said = record { code = e-ok; offset = noOffset; reason = 0; place = noPlace; woken = []; sum = E .sum (s .pool); greatest = E .greatest (s .pool); head = headTask (s .queue) };
         state = s;
       }
 

@@ -1,8 +1,9 @@
--- What demands 2 and 3 say of the calls.
-use Prim.Native.Nat.{ℕ}
+-- What demands 2 and 3 say of the calls, and what a refused release says of its offset.
+use Prim.Native.Nat.{ℕ, _+_, _≤_, _<_}
 use mathlib.Core.Path.{_≡_}
-use mathlib.Core.List.{List, [], _∷_}
+use mathlib.Core.List.{List, [], _∷_, _++_}
 use Rattle.model.specs.Limits.{e-ok, e-rlwai}
+use Rattle.model.specs.Blocks.{Block, total}
 use Rattle.model.specs.Rules.{Rules}
 use Rattle.model.specs.Calls.{noOffset, Request, Call, get, release, cancel, Reply, says, leaves, blocks, step}
 use Rattle.model.specs.Runs.{after, run, gets, refusals, winners}
@@ -30,3 +31,18 @@ pub record Undone (p : Stored) (a : Reply Stored) : Type 0 where
   pub said : a .said ≡ says e-ok noOffset []
   pub blocks : blocksOf (a .state .bytes) ≡ blocksOf (p .bytes)
   pub queue : a .state .queue ≡ p .queue
+
+-- a block of the list, with its header at the place a, has the byte i among its bytes
+pub record HolderOf (i : ℕ) (bs : List Block) (a : ℕ) : Type 0 where
+  pub pre : List Block
+  pub b : Block
+  pub post : List Block
+  pub is : bs ≡ pre ++ (b ∷ post)
+  pub place : a ≡ total pre
+  pub from : a ≤ i
+  pub to : i < a + b .size
+
+-- and no block at another place has
+pub record OneHolder (i : ℕ) (bs : List Block) (a : ℕ) : Type 0 where
+  pub holds : HolderOf i bs a
+  pub only : (x : ℕ) → HolderOf i bs x → x ≡ a

@@ -57,3 +57,21 @@ e-rlwai = minus 49
 
 abbrev pub e-tmout : ℤ
 e-tmout = minus 50
+
+-- ---- reasons of a refused release
+
+-- below 8, or at or past the pool's end
+abbrev pub out-of-range : ℕ
+out-of-range = 1
+
+-- not a multiple of 4
+abbrev pub misaligned : ℕ
+misaligned = 2
+
+-- the offset of a free block
+abbrev pub already-free : ℕ
+already-free = 3
+
+-- any other spot
+abbrev pub inside-block : ℕ
+inside-block = 4

@@ -11,7 +11,7 @@ use Rattle.model.specs.Limits.{most-tasks, e-ok, e-par}
 use Rattle.model.specs.Blocks.{Block, block}
 use Rattle.model.specs.Bytes.{blocksOf, render, erase}
 use Rattle.model.specs.Rules.{Rules, base}
-use Rattle.model.specs.Calls.{Call, inquire, noOffset, Said, Reply, State, state, says, decide, deny, blocks, sound, verdict, act}
+use Rattle.model.specs.Calls.{Call, inquire, noOffset, Said, Reply, State, state, says, plain, decide, deny, blocks, sound, verdict, act}
 use Rattle.model.specs.Places.{Queue, tidy, entriesOf, queueOf, wokenOf}
 
 pub record Stored : Type 0 where
@@ -58,7 +58,7 @@ module _ (R : ℕ → Rules) where
   unfoldable pub create : List ℕ → Reply Stored
   create l =
       decide (stored l (queueOf []))
-      (deny (not (R (length l) .valid)) e-par none)
+      (deny (not (R (length l) .valid)) (plain e-par) none)
       (record { said = says e-ok noOffset []; state = stored (render (block (length l) 0 ∷ []) l) (queueOf []) })
 
 -- ---- what the functions of the pool of document 01 answer, with the bytes that they leave
@@ -73,7 +73,7 @@ result a l = record { answer = a; bytes = l }
 abbrev pub answered : Reply Stored → Result
 answered r =
     result
-    (record { code = r .said .code; offset = r .said .offset; woken = wokenOf (r .said .woken); queue = r .state .queue })
+    (record { code = r .said .code; offset = r .said .offset; reason = r .said .reason; place = r .said .place; woken = wokenOf (r .said .woken); queue = r .state .queue })
     (r .state .bytes)
 
 abbrev pub created : List ℕ → Result

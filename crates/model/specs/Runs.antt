@@ -1,14 +1,14 @@
 -- Runs: calls one after the other, each handed its state as the call before left it; and lists of gets.
 use Prim.Native.Nat.{ℕ, zero, suc}
 use mathlib.Core.Path.{_≡_}
-use mathlib.Core.Bool.{Bool, false, cond}
+use mathlib.Core.Bool.{Bool, true, false, cond}
 use mathlib.Core.List.{List, [], _∷_}
 use mathlib.Core.Option.{Option, none, some}
 use lib.Dec.{eqb}
 use lib.IntN.{ℤ, pos, negsuc}
 use Rattle.model.specs.Limits.{e-ok}
 use Rattle.model.specs.Waiting.{Entry}
-use Rattle.model.specs.Calls.{Woken, Request, Call, get, release, cancel, tick, inquire, Said, Reply, entryOf}
+use Rattle.model.specs.Calls.{Woken, Request, Call, get, release, cancel, tick, inquire, Said, Refusal, Reply, entryOf}
 
 -- a call of a run and what it was told
 pub record Turn : Type 0 where
@@ -32,16 +32,23 @@ gets [] = []
 gets (r ∷ rs) = get r ∷ gets rs
 
 -- the code of a refusal: neither 0 nor 1
-unfoldable pub refusedBy : ℤ → Option ℤ
-refusedBy (pos zero) = none
-refusedBy (pos (suc zero)) = none
-refusedBy (pos (suc (suc n))) = some (pos (suc (suc n)))
-refusedBy (negsuc n) = some (negsuc n)
+unfoldable pub refuses : ℤ → Bool
+refuses (pos zero) = false
+refuses (pos (suc zero)) = false
+refuses (pos (suc (suc n))) = true
+refuses (negsuc n) = true
 
--- which calls of a run were refused, and by which codes
-unfoldable pub refusals : List Turn → List (Option ℤ)
+-- what was told, if it is a refusal
+abbrev pub refusing : Refusal → Option Refusal
+refusing x = cond (refuses (x .code)) (some x) none
+
+abbrev pub refusedBy : Said → Option Refusal
+refusedBy a = refusing (record { code = a .code; reason = a .reason; place = a .place })
+
+-- which calls of a run were refused, and how
+unfoldable pub refusals : List Turn → List (Option Refusal)
 refusals [] = []
-refusals (x ∷ l) = refusedBy (x .said .code) ∷ refusals l
+refusals (x ∷ l) = refusedBy (x .said) ∷ refusals l
 
 abbrev pub isZero : ℤ → Bool
 isZero (pos n) = eqb n 0

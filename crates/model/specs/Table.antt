@@ -1,9 +1,9 @@
--- Document 01's examples marked *, as one table: in each row a pool is created and called, and all that is expected is written down.
+-- Document 01's examples marked *, and the reasons of a refused release, as one table: in each row a pool is created and called, and all that is expected is written down.
 use Prim.Native.Nat.{ℕ, _+_, _-_}
 use mathlib.Core.List.{List, [], _∷_, _++_}
 use lib.ListN.{replicate}
 use lib.IntN.{ℤ, pos}
-use Rattle.model.specs.Limits.{forever, minus, e-ok, waiting, e-par, e-id, e-ctx, e-obj, e-rlwai, e-tmout}
+use Rattle.model.specs.Limits.{forever, minus, e-ok, waiting, e-par, e-id, e-ctx, e-obj, e-rlwai, e-tmout, out-of-range, misaligned, already-free, inside-block}
 use Rattle.model.specs.Blocks.{Block, block}
 use Rattle.model.specs.Waiting.{Entry}
 use Rattle.model.specs.Rules.{base}
@@ -68,6 +68,9 @@ at o = release (record { 0 = o })
 abbrev told : ℤ → ℕ → List Woken → Said
 told c o ws = says c (record { 0 = o }) ws
 
+abbrev told-why : ℕ → ℕ → Said
+told-why r p = record { code = e-par; offset = record { 0 = 0 }; reason = r; place = record { 0 = p }; woken = []; sum = 0; greatest = 0; head = 0 }
+
 abbrev woke : ℕ → ℤ → ℕ → Woken
 woke t c o = record { task = t; code = c; offset = record { 0 = o } }
 
@@ -124,7 +127,7 @@ row-f =
       long = 64;
       code = e-ok;
       lines = to-e ++ (line (poll 5 4) (told e-tmout 0 []) blocks-c queue-e
-          ∷ line inquire (record { code = e-ok; offset = record { 0 = 0 }; woken = []; sum = 8; greatest = 8; head = 3 }) blocks-c queue-e
+          ∷ line inquire (record { code = e-ok; offset = record { 0 = 0 }; reason = 0; place = record { 0 = 0 }; woken = []; sum = 8; greatest = 8; head = 3 }) blocks-c queue-e
           ∷ []);
       bytes = bytes-c;
     }
@@ -163,9 +166,9 @@ row-j =
     record {
       long = 64;
       code = e-ok;
-      lines = to-c ++ (line (at 12) (told e-par 0 []) blocks-c []
+      lines = to-c ++ (line (at 12) (told-why inside-block 0) blocks-c []
           ∷ line (at 8) (told e-ok 0 []) blocks-j []
-          ∷ line (at 8) (told e-par 0 []) blocks-j []
+          ∷ line (at 8) (told-why already-free 0) blocks-j []
           ∷ []);
       bytes = head 20 0 ++ body 12 ++ head 28 2 ++ body 20 ++ head 16 0 ++ body 8;
     }
@@ -246,5 +249,41 @@ row-refused =
       bytes = bytes-c;
     }
 
+-- after c: the offsets at which a reason begins or ends to apply, and those in each block
+abbrev wrong : ℕ → ℕ → ℕ → Line
+wrong o r p = line (at o) (told-why r p) blocks-c []
+
+abbrev pub row-reasons : Row
+row-reasons =
+    record {
+      long = 64;
+      code = e-ok;
+      lines = to-c ++ (wrong 0 out-of-range 0 ∷ wrong 7 out-of-range 0 ∷ wrong 64 out-of-range 0 ∷ wrong 18446744073709551615 out-of-range 0
+          ∷ wrong 9 misaligned 0 ∷ wrong 63 misaligned 0
+          ∷ wrong 56 already-free 48
+          ∷ wrong 12 inside-block 0 ∷ wrong 16 inside-block 0
+          ∷ wrong 20 inside-block 20 ∷ wrong 24 inside-block 20 ∷ wrong 32 inside-block 20 ∷ wrong 44 inside-block 20
+          ∷ wrong 48 inside-block 48 ∷ wrong 52 inside-block 48 ∷ wrong 60 inside-block 48
+          ∷ []);
+      bytes = bytes-c;
+    }
+
+-- in the smallest pool, free and then live
+abbrev pub row-reasons-least : Row
+row-reasons-least =
+    let whole = block 12 1 ∷ [] in
+    record {
+      long = 12;
+      code = e-ok;
+      lines = line (at 8) (told-why already-free 0) (block 12 0 ∷ []) []
+          ∷ line (wants 1 4) (told e-ok 8 []) whole []
+          ∷ line (at 4) (told-why out-of-range 0) whole []
+          ∷ line (at 11) (told-why misaligned 0) whole []
+          ∷ line (at 12) (told-why out-of-range 0) whole []
+          ∷ line (at 8) (told e-ok 0 []) (block 12 0 ∷ []) []
+          ∷ [];
+      bytes = head 12 0 ++ body 4;
+    }
+
 abbrev pub table : List Row
-table = row-a ∷ row-b ∷ row-c ∷ row-e ∷ row-f ∷ row-g ∷ row-h ∷ row-i ∷ row-j ∷ row-k 64 56 ∷ row-k 12 4 ∷ row-l ∷ row-split ∷ row-whole ∷ row-join ∷ row-stuck ∷ row-refused ∷ []
+table = row-a ∷ row-b ∷ row-c ∷ row-e ∷ row-f ∷ row-g ∷ row-h ∷ row-i ∷ row-j ∷ row-k 64 56 ∷ row-k 12 4 ∷ row-l ∷ row-split ∷ row-whole ∷ row-join ∷ row-stuck ∷ row-refused ∷ row-reasons ∷ row-reasons-least ∷ []

@@ -24,6 +24,15 @@ pub const E_RLWAI: i32 = -49;
 
 pub const E_TMOUT: i32 = -50;
 
+// Why the release of an offset is refused: it is below 8 or at or past the pool's end, no multiple of 4, that of a free block, or any other spot.
+pub const OUT_OF_RANGE: u32 = 1;
+
+pub const MISALIGNED: u32 = 2;
+
+pub const ALREADY_FREE: u32 = 3;
+
+pub const INSIDE_BLOCK: u32 = 4;
+
 // The offset of a block, as handed to tasks: the place of its header plus 8.
 pub struct BlockOffset(pub usize);
 
@@ -54,10 +63,13 @@ pub struct Woken {
     pub offset: BlockOffset,
 }
 
-// What a call answers, with the queue that it leaves.
+// What a call answers, with the queue that it leaves. Reason and place are those of a refused release, and 0 in every other answer; the place is
+// the header of the block that holds the offset, and 0 where the offset is out of range or no multiple of 4.
 pub struct Answer {
     pub code: i32,
     pub offset: BlockOffset,
+    pub reason: u32,
+    pub place: HeaderPlace,
     pub woken: [Woken; TASKS],
     pub queue: Queue,
 }

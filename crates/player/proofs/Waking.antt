@@ -14,7 +14,7 @@ use Rattle.model.specs.declared.Woken.{Woken}
 use Rattle.model.specs.Limits.{most-tasks, e-tmout}
 use Rattle.model.specs.Waiting.{waits, remove, expires, expired, remaining}
 use Rattle.model.specs.Rules.{Rules, base}
-use Rattle.model.specs.Calls.{Call, get, release, cancel, tick, inquire, entryOf, leave, Store, State, blocks, fitting, given, serve, goes, tests, act}
+use Rattle.model.specs.Calls.{Call, get, release, cancel, tick, inquire, Refusal, entryOf, leave, Store, State, blocks, fitting, given, serve, goes, tests, act}
 use Rattle.model.specs.Pool.{Stored, view, isSound, rulesOf, perform}
 use Rattle.model.proofs.Tests.{by, clash}
 use Rattle.model.proofs.Places.{Live, queued-live}
@@ -77,7 +77,7 @@ module _ (K : Rules) {P : Type 0} (E : Store P) where
   act-named inquire s v e = tt
 
 -- in a sound state, by what its tests say
-sound-named : (c : Call) (p : Stored) → isSound base p ≡ true → (v : Option ℤ) → tests (rulesOf base p) (blocks (rulesOf base p)) c (view p) ≡ v → Named (perform base c p .said .woken)
+sound-named : (c : Call) (p : Stored) → isSound base p ≡ true → (v : Option Refusal) → tests (rulesOf base p) (blocks (rulesOf base p)) c (view p) ≡ v → Named (perform base c p .said .woken)
 unfolding Named view
 sound-named c p h (some k) e = rw (by-refused (rulesOf base p) c p k h e) tt
 sound-named c p h none e =

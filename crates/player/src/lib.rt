@@ -61,7 +61,7 @@ pub fn last(read: Read, place: usize, count: usize, out: &mut [u8], at: usize) -
 }
 
 // The call that a record stands for.
-fn call(pool: &mut [u8], queue: Queue, made: Record) -> Answer
+pub fn call(pool: &mut [u8], queue: Queue, made: Record) -> Answer
     ensures { λ r. ⌜ result r (now (pool .exit)) ≡ called (callOf made) (now (pool .entry)) queue ⌝ }
 {
     match made {

@@ -1,34 +1,35 @@
 -- The calls after which the queue is served, create and inquire. Assumes nothing.
 use Prim.Native.Nat.{ℕ, zero, suc, _+_, _-_, _%_, _≤_, _<_, max}
 use mathlib.Core.Path.{_≡_, refl, sym, ap, _∙_}
-use mathlib.Core.Bool.{true, false}
+use mathlib.Core.Bool.{Bool, true, false, not}
 use mathlib.Core.List.{List, [], _∷_, _++_, append-nil}
-use mathlib.Core.Option.{Option, none}
+use mathlib.Core.Option.{Option, none, some}
 use native.Mathlib.Omega.{arith}
-use native.Mathlib.Nat.{zero-add}
 use lib.ListN.{length, getD, replicate}
 use lib.Seq.{sets}
-use lib.Dec.{leb}
-use borrow.Author.Tests.{le-leb, lt-leb, eq-eqb, ne-eqb}
+use lib.Dec.{leb, eqb}
+use borrow.Author.Tests.{leb-true, le-leb, lt-leb, lt-ltb, le-ltb, eq-eqb, ne-eqb}
 use Rattle.model.specs.declared.BlockOffset.{BlockOffset}
 use Rattle.model.specs.declared.Entry.{Entry}
 use Rattle.model.specs.declared.Queue.{Queue}
 use Rattle.model.specs.declared.Woken.{Woken}
-use Rattle.model.specs.Limits.{most-tasks, longest-pool, e-ok, e-sys, e-par, e-id, e-obj, e-rlwai, e-tmout}
-use Rattle.model.specs.Blocks.{Block, block, fits, liveAt, freed, greatestFree}
-use Rattle.model.specs.Bytes.{blocksOf, render, erase, header, written, mask, overlay}
+use Rattle.model.specs.Limits.{most-tasks, longest-pool, e-ok, e-sys, e-par, e-id, e-obj, e-rlwai, e-tmout, out-of-range, misaligned, already-free, inside-block}
+use Rattle.model.specs.Blocks.{Block, block, isFree, fits, startsAt, liveAt, freeAt, freed, greatestFree}
+use Rattle.model.specs.Bytes.{u32At, headerAt, blocksOf, render, erase, header, written, mask, overlay}
 use Rattle.model.specs.Waiting.{waits, remove, expired, remaining}
-use Rattle.model.specs.Rules.{okLong, okTask, queued, base}
-use Rattle.model.specs.Calls.{placeOf, noOffset, release, cancel, tick, inquire, Reply, Served, wake, leaves, leave, blocks, serve, tests, act}
+use Rattle.model.specs.Rules.{Rules, okLong, okTask, queued, base}
+use Rattle.model.specs.Calls.{placeOf, noOffset, noPlace, release, cancel, tick, inquire, Reply, Refusal, plain, because, Served, wake, leaves, leave, blocks, serve, inRange, misplaced, tests, act}
 use Rattle.model.specs.Places.{noEntry, pad, used, tidy, entriesOf, queueOf, wokenOf}
 use Rattle.model.specs.Pool.{Stored, stored, view, settled, isSound, create, Result, result, answered, created, called, inquired, totals}
-use Rattle.model.proofs.Tests.{by}
-use Rattle.model.proofs.Blocks.{freed-total, freed-tiled, fits-greatest}
+use Rattle.model.proofs.Tests.{and-l, and-r, and-f-r}
+use Rattle.model.proofs.Blocks.{freed-total, freed-tiled, fits-greatest, starts}
 use Rattle.model.proofs.Bytes.{erase-length, erase-render, erase-erase, tiled-roomy, freed-finer}
 use Rattle.model.proofs.Waiting.{remove-queued, remove-count, remaining-queued, expired-count, queued-length}
 use Rattle.model.proofs.Soundness.{leave-length}
 use Rattle.model.proofs.Places.{queued-live, used-pad, tidy-pad}
 use Rattle.model.proofs.Pool.{by-unsound, by-done}
+use Rattle.model.proofs.Refusals.{misplaced-because}
+use Rattle.model.proofs.Reasons.{released-live}
 use Rattle.model.proofs.Base.{base-laws}
 use Rattle.layout.specs.declared.Spot.{Spot}
 use Rattle.layout.specs.declared.Target.the-variants as target
@@ -36,13 +37,13 @@ use Rattle.layout.specs.declared.Found.the-variants as found
 use Rattle.layout.specs.declared.Surveyed.{Surveyed}
 use Rattle.layout.specs.Layout.{soundPool, seek, sought, put, Releasable, Released}
 use Rattle.layout.proofs.Sound.{open-pool}
-use Rattle.layout.proofs.Releasing.{around, found-live}
-use Rattle.layout.proofs.Finding.{no-spot, no-block}
+use Rattle.layout.proofs.Finding.{no-holder, Held, held}
 use Rattle.queue.specs.declared.Ticked.{Ticked}
 use Rattle.queue.specs.Entries.{tickedOf}
 use Rattle.queue.proofs.Places.{sets-behind}
 use Rattle.queue.proofs.Entries.{head-task}
-use Rattle.pool.specs.Steps.{refusal, blockAt, servedAs, Ready}
+use Rattle.pool.specs.declared.state.Reason.{Reason}
+use Rattle.pool.specs.Steps.{refusal, reasonOf, servedAs, Ready}
 use Rattle.pool.proofs.Inspecting.{Told, called-refused, called-done}
 use Rattle.pool.proofs.Serves.{Shown, shown}
 
@@ -75,49 +76,117 @@ pub served-reply : (p : Stored) (x : List ℕ) (w first : List Woken) (k : ℕ) 
     → servedAs x w k v ≡ answered (settled p (wake first v))
 served-reply p x w first k v ex ew ek =
     let s : sets w k (v .woken) ≡ wokenOf (first ++ v .woken) = rw (ew, ek) (sets-behind (record { task = 0; code = e-ok; offset = noOffset }) most-tasks first (v .woken)) in
-    λ i. result (record { code = e-ok; offset = noOffset; woken = s i; queue = queueOf (v .state .queue) }) (render (v .state .pool) (ex i))
+    λ i. result (record { code = e-ok; offset = noOffset; reason = 0; place = noPlace; woken = s i; queue = queueOf (v .state .queue) }) (render (v .state .pool) (ex i))
 
 -- ---- release
 
-seek-nothing : (bs : List Block) (at free : ℕ) → seek (sought target.Nothing) at free bs ≡ found.Nothing
-unfolding seek
-seek-nothing [] at free = refl
-seek-nothing (b ∷ bs) at free = seek-nothing bs (at + b .size) _
+-- what is known of an offset once the state is, by the block that holds it
+module _ (l : List ℕ) (o : BlockOffset) (sound : soundPool l ≡ true) where
+  abbrev rules : Rules
+  rules = base (length l)
 
-module _ (l : List ℕ) (q : Queue) (o : BlockOffset) (seen : Surveyed) (t : Told (blockAt o) l (q .entries) seen) where
+  abbrev misplacedIn : Option Refusal
+  misplacedIn = misplaced rules (blocks rules) o (blocksOf l)
+
+  pub reason-told : (r : Reason) → r ≡ reasonOf misplacedIn → (r .0 ≡ 0 → ⊥) → misplacedIn ≡ some (because (r .0) (r .1))
+  reason-told r e n = go misplacedIn refl e
+    where
+      go : (v : Option Refusal) → misplacedIn ≡ v → r ≡ reasonOf v → misplacedIn ≡ some (because (r .0) (r .1))
+      go none m q = absurd (n (ap (λ (x : Reason). x .0) q))
+      go (some x) m q = m ∙ ap some (misplaced-because rules (blocks rules) o (blocksOf l) x m .is) ∙ sym (ap (λ (x : Reason). some (because (x .0) (x .1))) q)
+
+  pub reason-none : (r : Reason) → r ≡ reasonOf misplacedIn → r .0 ≡ 0 → misplacedIn ≡ none
+  reason-none r e z = go misplacedIn refl e
+    where
+      go : (v : Option Refusal) → misplacedIn ≡ v → r ≡ reasonOf v → misplacedIn ≡ none
+      go none m q = m
+      go (some x) m q = absurd (misplaced-because rules (blocks rules) o (blocksOf l) x m .some-reason (sym (ap (λ (x : Reason). x .0) q) ∙ z))
+
+  -- no block holds it
+  pub reason-nowhere : seek (sought (target.Holder o)) 0 0 (blocksOf l) ≡ found.Nothing → misplacedIn ≡ some (because out-of-range noPlace)
+  unfolding base
+  reason-nowhere e =
+      let n = no-holder o (blocksOf l) e in
+      rw (and-f-r (leb 8 (o .0)) _ (le-ltb (o .0) (length l) (omega (arith, open-pool l sound .sums))))
+
+  pub reason-low : o .0 < 8 → misplacedIn ≡ some (because out-of-range noPlace)
+  reason-low h = rw (lt-leb 8 (o .0) h)
+
+  module _ (s : Spot) (e : seek (sought (target.Holder o)) 0 0 (blocksOf l) ≡ found.At s) (h : 8 ≤ o .0) where
+    known : Held l o s
+    known = held l o s sound e
+
+    pub reason-room : s .place .0 + 8 ≤ length l
+    reason-room = known .room
+
+    in-range : inRange rules o ≡ true
+    unfolding base
+    in-range = rw (le-leb 8 (o .0) h, lt-ltb (o .0) (length l) (known .within))
+
+    pub reason-uneven : (o .0 % 4 ≡ 0 → ⊥) → misplacedIn ≡ some (because misaligned noPlace)
+    reason-uneven n = rw (in-range, ne-eqb (o .0 % 4) 0 n)
+
+    module _ (d : o .0 % 4 ≡ 0) where
+      even : eqb (o .0 % 4) 0 ≡ true
+      even = eq-eqb (o .0 % 4) 0 d
+
+      pub reason-inside : (o .0 ≡ s .place .0 + 8 → ⊥) → misplacedIn ≡ some (because inside-block (s .place))
+      reason-inside n =
+          let free = known .inside n h isFree in
+          let live = known .inside n h (λ b. not (isFree b)) in
+          rw (in-range, even, free, live) (ap {B = Option Refusal} (λ (i : ℕ). some (because inside-block (record { 0 = i }))) (sym (known .place)))
+
+      module _ (a : o .0 ≡ s .place .0 + 8) (w : ℕ) (r : w ≡ u32At l (s .place .0 + 4)) where
+        here : o .0 - 8 ≡ s .place .0
+        here = omega arith
+
+        starting : (test : Block → Bool) → startsAt test (o .0 - 8) (blocksOf l) ≡ test (headerAt l (s .place .0))
+        starting test = rw here (known .heads test)
+
+        pub reason-free : w ≡ 0 → misplacedIn ≡ some (because already-free (s .place))
+        reason-free z =
+            let free : freeAt (o .0 - 8) (blocksOf l) ≡ true = starting isFree ∙ eq-eqb _ 0 (sym r ∙ z) in
+            rw (in-range, even, free) (ap {B = Option Refusal} (λ (i : ℕ). some (because already-free (record { 0 = i }))) here)
+
+        pub reason-live : (w ≡ 0 → ⊥) → misplacedIn ≡ none
+        reason-live z =
+            let owned : eqb (u32At l (s .place .0 + 4)) 0 ≡ false = ne-eqb _ 0 (λ x. z (r ∙ x)) in
+            let free : freeAt (o .0 - 8) (blocksOf l) ≡ false = starting isFree ∙ owned in
+            let live : liveAt (o .0 - 8) (blocksOf l) ≡ true = starting (λ b. not (isFree b)) ∙ ap not owned in
+            rw (in-range, even, free, live)
+
+module _ (l : List ℕ) (q : Queue) (o : BlockOffset) (seen : Surveyed) (t : Told (target.Holder o) l (q .entries) seen) where
   abbrev bs : List Block
   bs = blocksOf l
 
   abbrev p : ℕ
   p = placeOf o .0
 
-  pub release-refused : seen .found ≡ found.Nothing → result (refusal e-par q) l ≡ called (release o) l q
+  abbrev K : Rules
+  K = base (length l)
+
+  pub release-refused : (x : Refusal) → misplaced K (blocks K) o bs ≡ some x → result (refusal x q) l ≡ called (release o) l q
   unfolding tests view
-  release-refused e =
-      let z = sym (t .found) ∙ e in
-      called-refused (release o) l q e-par (t .state)
-      (by (leb 8 (o .0))
-      (λ h. let d : liveAt p bs ≡ false = no-block most-tasks (placeOf o) bs (open-pool l (t .parts .pool) .tiling) (rw h at z) in rw (h, d))
-      (λ h. rw h))
+  release-refused x e = called-refused (release o) l q x (t .state) e
 
-  module _ (s : Spot) (e : seen .found ≡ found.At s) where
-    far : leb 8 (o .0) ≡ true
-    far = by (leb 8 (o .0)) (λ h. h) (λ h. no-spot (sym (seek-nothing bs 0 0) ∙ (rw h at (sym (t .found) ∙ e))))
+  module _ (s : Spot) (none-wrong : misplaced K (blocks K) o bs ≡ none) (e : seen .found ≡ found.At s) where
+    sits : seek (sought (target.Holder o)) 0 0 bs ≡ found.At s
+    sits = sym (t .found) ∙ e
 
-    sits : seek (sought (target.Block (placeOf o))) 0 0 bs ≡ found.At s
-    sits = rw far at (sym (t .found) ∙ e)
+    far : 8 ≤ o .0
+    far = leb-true 8 (o .0) (and-l (leb 8 (o .0)) (liveAt p bs) (released-live K (blocks K) o bs none-wrong))
 
     live : liveAt p bs ≡ true
-    live = found-live most-tasks (placeOf o) bs s (open-pool l (t .parts .pool) .tiling) sits
+    live = and-r (leb 8 (o .0)) (liveAt p bs) (released-live K (blocks K) o bs none-wrong)
 
-    pub spot-place : s .place .0 ≡ p
+    spot-place : s .place .0 ≡ p
     spot-place =
-        let a = around most-tasks false p bs (open-pool l (t .parts .pool) .tiling) live .spot 0 0 in
-        let z = sym sits ∙ (rw (zero-add p) at a) in
-        cc
+        held l o s (t .parts .pool) sits .place ∙ starts most-tasks (λ b. not (isFree b)) p false bs (open-pool l (t .parts .pool) .tiling) live .holds (o .0) (omega (arith, far))
 
     pub releasable : Releasable l s
-    releasable = record { pool = t .parts .pool; live = ap (λ (i : ℕ). seek (sought (target.Block (record { 0 = i }))) 0 0 bs) spot-place ∙ sits }
+    releasable =
+        let k : s .place .0 + 8 ≡ o .0 = omega (arith, spot-place, far) in
+        record { pool = t .parts .pool; live = rw spot-place live; found = ap (λ (i : ℕ). seek (sought (target.Holder (record { 0 = i }))) 0 0 bs) k ∙ sits }
 
     module _ (l₁ : List ℕ) (r : ℕ) (d : Released l (s .place .0) l₁ r) where
       abbrev news : List Block
@@ -161,20 +230,20 @@ module _ (l : List ℕ) (q : Queue) (o : BlockOffset) (seen : Surveyed) (t : Tol
       release-done a w ew e =
           e ∙ (λ i. servedAs (erased i) w 0 (serve (base (same-length i)) (blocks (base (same-length i))) (blocks-are i) (entriesOf q)))
           ∙ served-reply (stored l q) (erase bs l) w [] 0 (serve (base (length l)) (blocks (base (length l))) news (entriesOf q)) refl ew refl
-          ∙ called-done (release o) l q (t .state) (rw (far, live))
+          ∙ called-done (release o) l q (t .state) none-wrong
 
 -- ---- cancel and tick
 
 module _ (l : List ℕ) (q : Queue) (seen : Surveyed) (t : Told target.Nothing l (q .entries) seen) where
   module _ (task : ℕ) where
-    pub cancel-unknown : okTask (base (length l)) task ≡ false → result (refusal e-id q) l ≡ called (cancel task) l q
+    pub cancel-unknown : okTask (base (length l)) task ≡ false → result (refusal (plain e-id) q) l ≡ called (cancel task) l q
     unfolding tests view
-    cancel-unknown h = called-refused (cancel task) l q e-id (t .state) (rw h)
+    cancel-unknown h = called-refused (cancel task) l q (plain e-id) (t .state) (rw h)
 
     module _ (h : okTask (base (length l)) task ≡ true) where
-      pub cancel-idle : waits task (entriesOf q) ≡ false → result (refusal e-obj q) l ≡ called (cancel task) l q
+      pub cancel-idle : waits task (entriesOf q) ≡ false → result (refusal (plain e-obj) q) l ≡ called (cancel task) l q
       unfolding tests view
-      cancel-idle w = called-refused (cancel task) l q e-obj (t .state) (rw (h, w))
+      cancel-idle w = called-refused (cancel task) l q (plain e-obj) (t .state) (rw (h, w))
 
       module _ (w : waits task (entriesOf q) ≡ true) (es : List Entry) (e : es ≡ pad noEntry most-tasks (remove task (entriesOf q))) where
         left : queued (base (length l)) (remove task (entriesOf q)) ≡ true
@@ -251,24 +320,24 @@ overlay-first (x ∷ xs) k [] = refl
 overlay-first (x ∷ xs) k (y ∷ l) = ap (λ (r : List ℕ). x ∷ r) (overlay-first xs k l)
 
 module _ (l : List ℕ) (q : Queue) (e : q ≡ queueOf []) where
-  refused-length : okLong (length l) ≡ false → result (refusal e-par q) l ≡ created l
+  refused-length : okLong (length l) ≡ false → result (refusal (plain e-par) q) l ≡ created l
   unfolding create base
   refused-length h = rw (e, h)
 
-  pub create-uneven : (length l % 4 ≡ 0 → ⊥) → result (refusal e-par q) l ≡ created l
+  pub create-uneven : (length l % 4 ≡ 0 → ⊥) → result (refusal (plain e-par) q) l ≡ created l
   create-uneven h = refused-length (rw (ne-eqb (length l % 4) 0 h))
 
-  pub create-short : length l % 4 ≡ 0 → length l < 12 → result (refusal e-par q) l ≡ created l
+  pub create-short : length l % 4 ≡ 0 → length l < 12 → result (refusal (plain e-par) q) l ≡ created l
   create-short d h = refused-length (rw (eq-eqb (length l % 4) 0 d, lt-leb 12 (length l) h))
 
-  pub create-long : length l % 4 ≡ 0 → 12 ≤ length l → longest-pool < length l → result (refusal e-par q) l ≡ created l
+  pub create-long : length l % 4 ≡ 0 → 12 ≤ length l → longest-pool < length l → result (refusal (plain e-par) q) l ≡ created l
   create-long d g h = refused-length (rw (eq-eqb (length l % 4) 0 d, le-leb 12 (length l) g, lt-leb (length l) longest-pool h))
 
-  pub create-done : length l % 4 ≡ 0 → 12 ≤ length l → length l ≤ longest-pool → (l′ : List ℕ) → l′ ≡ put 0 (header (block (length l) 0)) l → result (refusal e-ok q) l′ ≡ created l
+  pub create-done : length l % 4 ≡ 0 → 12 ≤ length l → length l ≤ longest-pool → (l′ : List ℕ) → l′ ≡ put 0 (header (block (length l) 0)) l → result (refusal (plain e-ok) q) l′ ≡ created l
   unfolding create base put render mask
   create-done d g h l′ el =
       let ok : okLong (length l) ≡ true = rw (eq-eqb (length l % 4) 0 d, le-leb 12 (length l) g, le-leb (length l) longest-pool h) in
       let b = block (length l) 0 in
       let bytes : l′ ≡ overlay ((written (header b) ++ replicate (length l - 8) none) ++ []) l =
       el ∙ overlay-first (header b) (length l - 8) l ∙ ap (λ (m : List (Option ℕ)). overlay m l) (sym (append-nil _)) in
-      rw (e, ok) (ap (λ (x : List ℕ). result (refusal e-ok (queueOf [])) x) bytes)
+      rw (e, ok) (ap (λ (x : List ℕ). result (refusal (plain e-ok) (queueOf [])) x) bytes)

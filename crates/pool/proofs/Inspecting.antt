@@ -7,7 +7,6 @@ use mathlib.Core.Option.{none, some}
 use native.Mathlib.Omega.{arith}
 use lib.ListN.{length, getD, length-map}
 use lib.Dec.{leb, eqb}
-use lib.IntN.{ℤ}
 use borrow.Author.Tests.{le-leb}
 use Rattle.model.specs.declared.HeaderPlace.{HeaderPlace}
 use Rattle.model.specs.declared.Entry.{Entry}
@@ -16,7 +15,7 @@ use Rattle.model.specs.Limits.{most-tasks, longest-pool, e-sys}
 use Rattle.model.specs.Blocks.{total, tiled, sumFree, greatestFree}
 use Rattle.model.specs.Bytes.{blocksOf, render, erase}
 use Rattle.model.specs.Rules.{Rules, okLong, needOf, queued, base}
-use Rattle.model.specs.Calls.{Call, blocks, headStuck, sound, tests, act}
+use Rattle.model.specs.Calls.{Call, Refusal, plain, blocks, headStuck, sound, tests, act}
 use Rattle.model.specs.Places.{noEntry, used, tidy, entriesOf, queueOf}
 use Rattle.model.specs.Pool.{Stored, stored, view, settled, soundBy, isSound, result, answered, called}
 use Rattle.model.proofs.Tests.{by, clash, and-l, and-r}
@@ -176,10 +175,10 @@ module _ (c : Call) (l : List ℕ) (q : Queue) where
   abbrev K : Rules
   K = base (length l)
 
-  pub called-unsound : isSound base (stored l q) ≡ false → result (refusal e-sys q) l ≡ called c l q
+  pub called-unsound : isSound base (stored l q) ≡ false → result (refusal (plain e-sys) q) l ≡ called c l q
   called-unsound h = sym (ap answered (by-unsound K c (stored l q) h))
 
-  pub called-refused : (k : ℤ) → isSound base (stored l q) ≡ true → tests K (blocks K) c (view (stored l q)) ≡ some k → result (refusal k q) l ≡ called c l q
+  pub called-refused : (k : Refusal) → isSound base (stored l q) ≡ true → tests K (blocks K) c (view (stored l q)) ≡ some k → result (refusal k q) l ≡ called c l q
   called-refused k h e = sym (ap answered (by-refused K c (stored l q) k h e))
 
   pub called-done : isSound base (stored l q) ≡ true → tests K (blocks K) c (view (stored l q)) ≡ none → answered (settled (stored l q) (act K (blocks K) c (view (stored l q)))) ≡ called c l q

@@ -21,7 +21,7 @@ use Rattle.model.specs.Blocks.{Block, fits, firstFit, granted}
 use Rattle.model.specs.Bytes.{blocksOf}
 use Rattle.model.specs.Waiting.{waits}
 use Rattle.model.specs.Rules.{Rules, okTask, okSize, needOf, base}
-use Rattle.model.specs.Calls.{offsetOf, Request, get, deny, okLimit, isPoll, leftOf, entryOf, State, state, blocks, goes, tests, act}
+use Rattle.model.specs.Calls.{offsetOf, noPlace, Request, get, plain, deny, okLimit, isPoll, leftOf, entryOf, State, state, blocks, goes, tests, act}
 use Rattle.model.specs.Places.{noEntry, entriesOf, tidy, wokenOf}
 use Rattle.model.specs.Pool.{stored, view, performBy, isSound, result, answered, called}
 use Rattle.model.proofs.Tests.{by, and-l, and-f-r, not-f}
@@ -71,8 +71,11 @@ module _ (n t s : ℕ) (l : ℤ) (q : List Entry) where
 
 -- ---- tests of a get
 
+plain-some : (c k : ℤ) → some c ≡ some k → some (plain c) ≡ some (plain k)
+plain-some c k e = let g : c ≡ k = cc in ap (λ (x : ℤ). some (plain x)) g
+
 module _ (K : Rules) (r : Request) (s : State (List Block)) where
-  pub asked-some : (k : ℤ) → asked K r (s .queue) ≡ some k → tests K (blocks K) (get r) s ≡ some k
+  pub asked-some : (k : ℤ) → asked K r (s .queue) ≡ some k → tests K (blocks K) (get r) s ≡ some (plain k)
   unfolding tests
   asked-some k e =
       let a = okTask K (r .task) in
@@ -81,12 +84,12 @@ module _ (K : Rules) (r : Request) (s : State (List Block)) where
       by a
       (λ ha. by b
       (λ hb. by w
-      (λ hw. rw (ha, hb, hw) (rw (ha, hb, hw) at e))
+      (λ hw. rw (ha, hb, hw) (plain-some e-ctx k (rw (ha, hb, hw) at e)))
       (λ hw. no-some (sym (rw (ha, hb, hw) at e))))
-      (λ hb. rw (ha, hb) (rw (ha, hb) at e)))
-      (λ ha. rw ha (rw ha at e))
+      (λ hb. rw (ha, hb) (plain-some e-par k (rw (ha, hb) at e))))
+      (λ ha. rw ha (plain-some e-id k (rw ha at e)))
 
-  pub asked-none : asked K r (s .queue) ≡ none → tests K (blocks K) (get r) s ≡ deny (isPoll (r .limit) && not (goes K (blocks K) (entryOf r) s)) e-tmout none
+  pub asked-none : asked K r (s .queue) ≡ none → tests K (blocks K) (get r) s ≡ deny (isPoll (r .limit) && not (goes K (blocks K) (entryOf r) s)) (plain e-tmout) none
   unfolding tests
   asked-none e =
       let p = past (not (okTask K (r .task))) e-id _ e in
@@ -127,11 +130,11 @@ module _ (l : List ℕ) (q : Queue) (t n : ℕ) (limit : ℤ) where
   abbrev r : Request
   r = request t n limit
 
-  pub get-refused : (k : ℤ) → isSound base (stored l q) ≡ true → judged (asked K r (entriesOf q)) limit ≡ Refuse k → result (refusal (toZ w32 (ofZ w32 k)) q) l ≡ called (get r) l q
+  pub get-refused : (k : ℤ) → isSound base (stored l q) ≡ true → judged (asked K r (entriesOf q)) limit ≡ Refuse k → result (refusal (plain (toZ w32 (ofZ w32 k))) q) l ≡ called (get r) l q
   unfolding view
   get-refused k h e =
       let s = judged-refuse (asked K r (entriesOf q)) limit k e in
-      rw (code-kept K r (entriesOf q) k s) (called-refused (get r) l q k h (asked-some K r (view (stored l q)) k s))
+      rw (code-kept K r (entriesOf q) k s) (called-refused (get r) l q (plain k) h (asked-some K r (view (stored l q)) k s))
 
   pub get-admitted : (p : Bool) (left : ℕ) → isSound base (stored l q) ≡ true → judged (asked K r (entriesOf q)) limit ≡ Go p left
       → answered (admitted (stored l q) (entry t n left) p) ≡ called (get r) l q
@@ -201,9 +204,9 @@ module _ (l : List ℕ) (q : Queue) (e : Entry) (f : Found) (fair : Fair l q e f
     admit-grantable = record { pool = parts .pool; least = base-laws (length l) .need-least e (fair .size); run = fit .0; place-is = fit .1 }
 
     pub admit-granted : (a : BlockOffset) (w : List Woken) (l′ : List ℕ) (p : Bool) → length (q .entries) ≡ most-tasks → a ≡ offsetOf (s .place) → w ≡ wokenOf []
-        → l′ ≡ changed (granted (needOf (e .size)) (e .task)) l → result (record { code = e-ok; offset = a; woken = w; queue = q }) l′ ≡ answered (admitted (stored l q) e p)
+        → l′ ≡ changed (granted (needOf (e .size)) (e .task)) l → result (record { code = e-ok; offset = a; reason = 0; place = noPlace; woken = w; queue = q }) l′ ≡ answered (admitted (stored l q) e p)
     unfolding view base
     admit-granted a w l′ p n ea ew el =
         let g : goes base-K (blocks base-K) e (view (stored l q)) ≡ true = goes-is ∙ rw (ran .0, fit .0) in
         let place : a ≡ offsetOf (record { 0 = firstFit (needOf (e .size)) (blocksOf l) }) = ea ∙ ap {B = BlockOffset} (λ (i : ℕ). record { 0 = i + 8 }) (fit .1) in
-        rw (g, and-f-r p false refl) (λ i. result (record { code = e-ok; offset = place i; woken = ew i; queue = sym (kept-queue l q n parts) i }) (el i))
+        rw (g, and-f-r p false refl) (λ i. result (record { code = e-ok; offset = place i; reason = 0; place = noPlace; woken = ew i; queue = sym (kept-queue l q n parts) i }) (el i))

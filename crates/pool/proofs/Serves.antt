@@ -14,7 +14,7 @@ use Rattle.model.specs.Limits.{most-tasks, longest-pool, e-ok}
 use Rattle.model.specs.Blocks.{Block, total, tiled, fits, firstFit, granted}
 use Rattle.model.specs.Bytes.{blocksOf, render, erase}
 use Rattle.model.specs.Rules.{queued, needOf, base}
-use Rattle.model.specs.Calls.{offsetOf, Served, state, blocks, serve, noOffset}
+use Rattle.model.specs.Calls.{offsetOf, Served, state, blocks, serve, noOffset, noPlace}
 use Rattle.model.specs.Places.{used, queueOf}
 use Rattle.model.specs.Pool.{result}
 use Rattle.model.proofs.Waiting.{Asked, open-queued, entry-asked}
@@ -56,7 +56,7 @@ shown x n bs e t s z p k =
     }
 
 abbrev pub answerAs : List Woken → List Entry → Answer
-answerAs w es = record { code = e-ok; offset = noOffset; woken = w; queue = queueOf es }
+answerAs w es = record { code = e-ok; offset = noOffset; reason = 0; place = noPlace; woken = w; queue = queueOf es }
 
 -- ---- the loop. x: the bytes at entry without their headers; v: what is to be served at entry, behind k tasks noted in w
 

@@ -1,39 +1,40 @@
 -- Demands 1 to 3 about what the contracts of the calls cite: `created`, `called` and `inquired`. Assumes nothing.
-use Prim.Native.Nat.{ℕ}
+use Prim.Native.Nat.{ℕ, _≤_}
 use mathlib.Core.Path.{_≡_, refl, sym, ap, _∙_}
-use mathlib.Core.Logic.{_↔_}
+use mathlib.Core.Logic.{_↔_, _⊎_}
 use mathlib.Core.Bool.{true, false}
 use mathlib.Core.List.{List, [], _∷_}
 use mathlib.Core.Option.{Option, none, some}
 use lib.ListN.{length}
-use lib.IntN.{ℤ}
+use Rattle.model.specs.declared.BlockOffset.{BlockOffset}
 use Rattle.model.specs.declared.Queue.{Queue}
-use Rattle.model.specs.Limits.{e-ok, waiting, e-sys, e-par, e-rlwai}
+use Rattle.model.specs.declared.Answer.{Answer}
+use Rattle.model.specs.Limits.{e-ok, waiting, e-sys, e-par, e-rlwai, already-free}
 use Rattle.model.specs.Blocks.{block, sumFree, greatestFree}
 use Rattle.model.specs.Bytes.{blocksOf, render}
 use Rattle.model.specs.Waiting.{headTask}
 use Rattle.model.specs.Rules.{Rules, okLong, base}
-use Rattle.model.specs.Calls.{noOffset, Request, Call, get, release, cancel, inquire, Reply, leaves, blocks, sound, tests, act, step}
+use Rattle.model.specs.Calls.{noOffset, noPlace, Request, Call, get, release, cancel, inquire, Reply, Refusal, plain, leaves, blocks, sound, isLive, tests, act, step}
 use Rattle.model.specs.Refusals.{Refused}
-use Rattle.model.specs.Runs.{after, run, gets, refusedBy, refusals, winners, Others}
+use Rattle.model.specs.Runs.{after, run, gets, refuses, refusals, winners, Others}
 use Rattle.model.specs.Places.{tidy, entriesOf, queueOf, wokenOf}
 use Rattle.model.specs.Pool.{Stored, stored, Typed, view, settled, soundBy, isSound, perform, create, Result, result, answered, created, called, inquired, totals}
-use Rattle.model.specs.Demands.{NoTrace, undo, Undone}
+use Rattle.model.specs.Demands.{NoTrace, undo, Undone, OneHolder}
 use Rattle.model.proofs.Tests.{and-l}
 use Rattle.model.proofs.Pool.{by-unsound, by-done}
-use Rattle.model.proofs.Theorems.{base-refusal-keeps, base-refusal-when, base-call-seen, base-cancel-no-trace, base-release-undoes}
+use Rattle.model.proofs.Theorems.{base-refusal-keeps, base-refusal-when, base-release-refused-when, base-done-no-reason, base-release-refused-live, base-release-place, base-call-seen, base-cancel-no-trace, base-release-undoes}
 pub use Rattle.model.proofs.Theorems.{base-blocks-of-render, base-render-of-blocks, base-entries-of-queue, base-queue-of-entries, base-woken-fit}
-use Rattle.pool.specs.Steps.{refusal}
+use Rattle.pool.specs.Steps.{refusal, refusedIn}
 use Rattle.pool.proofs.Inspecting.{State as Parts, open-state, called-refused, called-done, kept-bytes, kept-queue}
 
 -- ---- demand 1, for any bytes, queue and numbers
 
 module _ (l : List ℕ) where
-  pub create-refused : okLong (length l) ≡ false → created l ≡ result (refusal e-par (queueOf [])) l
+  pub create-refused : okLong (length l) ≡ false → created l ≡ result (refusal (plain e-par) (queueOf [])) l
   unfolding create base
   create-refused h = rw h
 
-  pub create-done : okLong (length l) ≡ true → created l ≡ result (refusal e-ok (queueOf [])) (render (block (length l) 0 ∷ []) l)
+  pub create-done : okLong (length l) ≡ true → created l ≡ result (refusal (plain e-ok) (queueOf [])) (render (block (length l) 0 ∷ []) l)
   unfolding create base
   create-done h = rw h
 
@@ -42,12 +43,16 @@ module _ (c : Call) (l : List ℕ) (q : Queue) where
   K = base (length l)
 
   -- a code other than 0 and 1 comes with offset 0 and nobody woken, and leaves every byte and the queue
-  pub call-refused : (k : ℤ) → refusedBy (called c l q .answer .code) ≡ some k → called c l q ≡ result (refusal k q) l
+  pub call-refused : (k : Refusal) → refusedIn (called c l q .answer) ≡ some k → called c l q ≡ result (refusal k q) l
   call-refused k e = ap answered (base-refusal-keeps c (stored l q) k e)
 
   -- and is answered exactly as the table of refusals says
-  pub call-refused-when : (k : ℤ) → (refusedBy (called c l q .answer .code) ≡ some k) ↔ Refused K (blocks K) (isSound base (stored l q)) (view (stored l q)) c k
+  pub call-refused-when : (k : Refusal) → (refusedIn (called c l q .answer) ≡ some k) ↔ Refused K (blocks K) (isSound base (stored l q)) (view (stored l q)) c k
   call-refused-when k = base-refusal-when c (stored l q) k
+
+  -- a call that is not refused gives no reason
+  pub call-no-reason : refusedIn (called c l q .answer) ≡ none → (called c l q .answer .reason ≡ 0) × (called c l q .answer .place ≡ noPlace)
+  call-no-reason e = base-done-no-reason c (stored l q) e
 
   -- ---- demand 2
 
@@ -71,10 +76,29 @@ module _ (c : Call) (l : List ℕ) (q : Queue) where
         o : Parts l (q .entries)
         o = open-state l (q .entries) h
 
-        go : (v : Option ℤ) → tests K (blocks K) c (view (stored l q)) ≡ v → called c l q ≡ answered (settled (stored l q) (step K (blocks K) c (view (stored l q))))
+        go : (v : Option Refusal) → tests K (blocks K) c (view (stored l q)) ≡ v → called c l q ≡ answered (settled (stored l q) (step K (blocks K) c (view (stored l q))))
         go none e = sym (called-done c l q h e) ∙ rw (s, e)
         go (some k) e =
             sym (called-refused c l q k h e) ∙ rw (s, e) (λ i. result (refusal k (sym (kept-queue l q (t .places) o) i)) (sym (kept-bytes l q (t .byte) o) i))
+
+-- ---- the reasons of a refused release
+
+module _ (o : BlockOffset) (l : List ℕ) (q : Queue) where
+  abbrev told : Answer
+  told = called (release o) l q .answer
+
+  -- a release is refused exactly if it gives a reason or the state is not sound
+  pub release-refused-when : (refuses (told .code) ≡ true) ↔ (((told .reason ≡ 0) → ⊥) ⊎ (isSound base (stored l q) ≡ false))
+  release-refused-when = base-release-refused-when o (stored l q)
+
+  -- in a sound state: exactly if the offset is not that of a live block
+  pub release-refused-live : isSound base (stored l q) ≡ true → (refuses (told .code) ≡ true) ↔ (isLive (base (length l)) (blocks (base (length l))) o (blocksOf l) ≡ false)
+  unfolding view
+  release-refused-live h = base-release-refused-live o (stored l q) h
+
+  -- with the reasons 3 and 4 the place is the header of the one block whose bytes hold the offset
+  pub release-place : already-free ≤ told .reason → OneHolder (o .0) (blocksOf l) (told .place .0)
+  release-place h = base-release-place o (stored l q) h
 
 -- inquire gives the totals of the block list and the head's task
 module _ (l : List ℕ) (q : Queue) where
@@ -103,7 +127,7 @@ module _ (l : List ℕ) (q : Queue) (h : isSound base (stored l q) ≡ true) (t 
 
     -- bytes and queue are those that the gets alone leave; the task is woken with -49, then those whom the gets alone grant
     pub cancel-leaves-no-trace : called (cancel (f .task)) (waited .bytes) (waited .queue)
-        ≡ result (record { code = e-ok; offset = noOffset; woken = wokenOf (leaves e-rlwai (f .task) ∷ winners (run (perform base) (stored l q) (gets rs))); queue = alone .queue }) (alone .bytes)
+        ≡ result (record { code = e-ok; offset = noOffset; reason = 0; place = noPlace; woken = wokenOf (leaves e-rlwai (f .task) ∷ winners (run (perform base) (stored l q) (gets rs))); queue = alone .queue }) (alone .bytes)
     cancel-leaves-no-trace = ap answered (no-trace .cancelled)
 
     -- the same gets are refused, by the same codes
@@ -122,8 +146,8 @@ module _ (l : List ℕ) (q : Queue) (h : isSound base (stored l q) ≡ true) (t 
     undone = base-release-undoes (stored l q) r h t z
 
     -- the release answers 0, wakes nobody and gives the former queue
-    pub release-restores-queue : back .answer ≡ refusal e-ok q
-    release-restores-queue = λ i. record { code = undone .said i .code; offset = undone .said i .offset; woken = wokenOf (undone .said i .woken); queue = undone .queue i }
+    pub release-restores-queue : back .answer ≡ refusal (plain e-ok) q
+    release-restores-queue = λ i. record { code = undone .said i .code; offset = undone .said i .offset; reason = undone .said i .reason; place = undone .said i .place; woken = wokenOf (undone .said i .woken); queue = undone .queue i }
 
     -- and the former block list
     pub release-restores-blocks : blocksOf (back .bytes) ≡ blocksOf l

@@ -6,9 +6,8 @@ use mathlib.Core.List.{List, []}
 use mathlib.Core.Option.{Option, none, some}
 use lib.ListN.{length, getD}
 use lib.Seq.{sets}
-use lib.Dec.{leb, eqb}
+use lib.Dec.{eqb}
 use lib.IntN.{ℤ}
-use Rattle.model.specs.declared.BlockOffset.{BlockOffset}
 use Rattle.model.specs.declared.Entry.{Entry}
 use Rattle.model.specs.declared.Queue.{Queue}
 use Rattle.model.specs.declared.Woken.{Woken}
@@ -18,7 +17,8 @@ use Rattle.model.specs.Blocks.{Block, fits}
 use Rattle.model.specs.Bytes.{blocksOf, render}
 use Rattle.model.specs.Waiting.{waits, insert}
 use Rattle.model.specs.Rules.{Rules, okTask, queued, needOf, base}
-use Rattle.model.specs.Calls.{placeOf, noOffset, Request, Reply, Served, decide, deny, okLimit, isPoll, leftOf, entryOf, blocks, goes, grants, joins}
+use Rattle.model.specs.Calls.{noOffset, noPlace, Request, Reply, Refusal, plain, Served, decide, deny, okLimit, isPoll, leftOf, entryOf, blocks, goes, grants, joins}
+use Rattle.model.specs.Runs.{refusing}
 use Rattle.model.specs.Places.{noEntry, used, tidy, entriesOf, queueOf, wokenOf}
 use Rattle.model.specs.Pool.{Stored, stored, view, settled, rulesOf, isSound, Result, result}
 use Rattle.layout.specs.declared.Target.{Target}
@@ -29,6 +29,7 @@ use Rattle.layout.specs.declared.Surveyed.{Surveyed}
 use Rattle.layout.specs.Layout.{soundPool, seek, sought, refused, surveyOf}
 use Rattle.queue.specs.declared.Slot.{Slot}
 use Rattle.queue.specs.declared.Slot.the-variants as slot
+use Rattle.pool.specs.declared.state.Reason.{Reason}
 use Rattle.pool.specs.declared.request.Verdict.{Verdict}
 use Rattle.pool.specs.declared.request.Verdict.the-variants.{Refuse, Go}
 
@@ -44,13 +45,18 @@ entry t n l = record { task = t; size = n; left = l }
 abbrev pub inspected : Target → List ℕ → List Entry → Surveyed
 inspected t l es = cond (isSound base (stored l (record { entries = es }))) (surveyOf t l) refused
 
--- the block whose offset this is: only an offset of at least 8 has one
-abbrev pub blockAt : BlockOffset → Target
-blockAt o = cond (leb 8 (o .0)) (target.Block (placeOf o)) target.Nothing
+-- nobody woken, the queue kept
+abbrev pub refusal : Refusal → Queue → Answer
+refusal x q = record { code = x .code; offset = noOffset; reason = x .reason; place = x .place; woken = wokenOf []; queue = q }
 
--- a code, nobody woken, the queue kept
-abbrev pub refusal : ℤ → Queue → Answer
-refusal c q = record { code = c; offset = noOffset; woken = wokenOf []; queue = q }
+-- the refusal that an answer tells, if it is one
+abbrev pub refusedIn : Answer → Option Refusal
+refusedIn a = refusing (record { code = a .code; reason = a .reason; place = a .place })
+
+-- number and place of the reason, if there is one
+abbrev pub reasonOf : Option Refusal → Reason
+reasonOf (some x) = record { 0 = x .reason; 1 = x .place }
+reasonOf none = record { 0 = 0; 1 = noPlace }
 
 -- ---- requests
 
@@ -76,14 +82,14 @@ runFor es f = cond (eqb (getD es 0 noEntry .task) 0) f found.Nothing
 -- the answer to a request that is not granted at once
 abbrev pub held : Queue → Entry → Bool → Answer
 held q e poll =
-    cond poll (refusal e-tmout q)
-    (record { code = waiting; offset = noOffset; woken = wokenOf []; queue = queueOf (insert (λ x. 0) e (entriesOf q)) })
+    cond poll (refusal (plain e-tmout) q)
+    (record { code = waiting; offset = noOffset; reason = 0; place = noPlace; woken = wokenOf []; queue = queueOf (insert (λ x. 0) e (entriesOf q)) })
 
 -- the reply to a request that no test but the last refuses
 abbrev pub admitted : Stored → Entry → Bool → Reply Stored
 admitted p e poll =
     decide p
-    (deny (poll && not (goes (rulesOf base p) (blocks (rulesOf base p)) e (view p))) e-tmout none)
+    (deny (poll && not (goes (rulesOf base p) (blocks (rulesOf base p)) e (view p))) (plain e-tmout) none)
     (settled p (cond (goes (rulesOf base p) (blocks (rulesOf base p)) e (view p)) (grants (rulesOf base p) (blocks (rulesOf base p)) e (view p)) (joins (rulesOf base p) (blocks (rulesOf base p)) e (view p))))
 
 -- a sound state, an entry that may be asked for, and what the survey found for its need
@@ -98,7 +104,7 @@ pub record Fair (l : List ℕ) (q : Queue) (e : Entry) (f : Found) : Type 0 wher
 
 -- what was served, behind k tasks that were noted in w, and the bytes x with the headers written
 abbrev pub servedAs : List ℕ → List Woken → ℕ → Served (List Block) → Result
-servedAs x w k v = result (record { code = e-ok; offset = noOffset; woken = sets w k (v .woken); queue = queueOf (v .state .queue) }) (render (v .state .pool) x)
+servedAs x w k v = result (record { code = e-ok; offset = noOffset; reason = 0; place = noPlace; woken = sets w k (v .woken); queue = queueOf (v .state .queue) }) (render (v .state .pool) x)
 
 -- a sound pool and queue, room for all who may be woken, and no run longer than `most`
 pub record Ready (l : List ℕ) (es : List Entry) (k most : ℕ) : Type 0 where

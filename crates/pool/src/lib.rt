@@ -3,6 +3,7 @@ use layout::Found;
 use layout::Target;
 use layout::change;
 use layout::header;
+use layout::walk;
 use model::Answer;
 use model::BlockOffset;
 use model::E_ID;
@@ -12,6 +13,7 @@ use model::E_RLWAI;
 use model::E_SYS;
 use model::HeaderPlace;
 use model::LONGEST_POOL;
+use model::OUT_OF_RANGE;
 use model::Queue;
 use model::Totals;
 use model::Woken;
@@ -73,22 +75,25 @@ pub fn poll(pool: &mut [u8], queue: Queue, task: u32, size: u32) -> Answer
     get(pool, queue, task, size, 0)
 }
 
-// The block at an offset becomes free, and the queue is served.
+// The block at an offset becomes free, and the queue is served. A refusal says why the offset is not that of a live block.
 pub fn release(pool: &mut [u8], queue: Queue, offset: BlockOffset) -> Answer
     ensures { λ r. ⌜ result r (now (pool .exit)) ≡ called (calls.release offset) (now (pool .entry)) queue ⌝ }
 {
-    let target = state::block_at(offset);
     let entries = queue.entries;
-    let seen = state::inspect(pool, entries, target);
+    let seen = state::inspect(pool, entries, Target::Holder(offset));
     if !seen.sound {
         return state::refuse(E_SYS, queue);
     }
     let found = seen.found;
     let Found::At(spot) = found else {
-        return state::refuse(E_PAR, queue);
+        return state::refuse_for(E_PAR, OUT_OF_RANGE, HeaderPlace(0), queue);
     };
+    let why = state::reason_of(pool, offset, spot);
+    if why.0 != 0 {
+        return state::refuse_for(E_PAR, why.0, why.1, queue);
+    }
     let run = change::release_at(pool, spot);
-    let most = state::greater(run, seen.greatest + 8);
+    let most = walk::greater(run, seen.greatest + 8);
     serving::serve(pool, entries, queue::nobody(), 0, most)
 }
 

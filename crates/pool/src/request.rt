@@ -10,6 +10,7 @@ use model::E_ID;
 use model::E_PAR;
 use model::E_TMOUT;
 use model::Entry;
+use model::HeaderPlace;
 use model::Queue;
 use model::TASKS;
 use model::WAITING;
@@ -81,6 +82,8 @@ fn hold(queue: Queue, e: Entry, poll: bool) -> Answer
     Answer {
         code: WAITING,
         offset: BlockOffset(0),
+        reason: 0,
+        place: HeaderPlace(0),
         woken: queue::nobody(),
         queue: Queue {
             entries: queue::join(entries, e),
@@ -119,6 +122,8 @@ pub fn admit(
     Answer {
         code: 0,
         offset: header::offset_of(at),
+        reason: 0,
+        place: HeaderPlace(0),
         woken: queue::nobody(),
         queue: queue,
     }

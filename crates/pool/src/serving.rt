@@ -7,6 +7,7 @@ use layout::walk;
 use model::Answer;
 use model::BlockOffset;
 use model::Entry;
+use model::HeaderPlace;
 use model::Queue;
 use model::TASKS;
 use model::Woken;
@@ -61,6 +62,8 @@ pub fn serve(
     Answer {
         code: 0,
         offset: BlockOffset(0),
+        reason: 0,
+        place: HeaderPlace(0),
         woken: noted,
         queue: Queue { entries: left },
     }

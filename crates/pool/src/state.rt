@@ -1,17 +1,32 @@
-// The state of a pool: its test, and a refusal that leaves it as it is.
+// The state of a pool: its test, that of an offset, and a refusal that leaves it as it is.
+use layout::Spot;
 use layout::Surveyed;
 use layout::Target;
 use layout::header;
 use layout::walk;
+use model::ALREADY_FREE;
 use model::Answer;
 use model::BlockOffset;
 use model::Entry;
+use model::HeaderPlace;
+use model::INSIDE_BLOCK;
+use model::MISALIGNED;
+use model::OUT_OF_RANGE;
 use model::Queue;
 use model::TASKS;
 ghost use mathlib.Core.Path.{_≡_};
-ghost use Prim.Native.Nat.{max};
-ghost use Rattle.model.specs.Rules.{needOf};
-ghost use Rattle.pool.specs.Steps.{inspected, refusal, blockAt};
+ghost use mathlib.Core.Bool.{true};
+ghost use lib.ListN.{length};
+ghost use Rattle.model.specs.Bytes.{blocksOf};
+ghost use Rattle.model.specs.Rules.{needOf, base};
+ghost use Rattle.model.specs.Calls.{plain, blocks, misplaced};
+ghost use Rattle.layout.specs.declared.Target.the-variants as target;
+ghost use Rattle.layout.specs.declared.Found.the-variants as found;
+ghost use Rattle.layout.specs.Layout.{soundPool, seek, sought};
+ghost use Rattle.pool.specs.Steps.{inspected, refusal, reasonOf};
+
+// Why a release is refused, and the place of a header; 0 and 0 if it is not.
+pub struct Reason(pub u32, pub HeaderPlace);
 
 // The size of the block for a size asked.
 pub fn need(size: u32) -> usize
@@ -20,32 +35,48 @@ pub fn need(size: u32) -> usize
     (size as usize + 3) / 4 * 4 + 8
 }
 
-pub fn greater(a: usize, b: usize) -> usize
-    ensures { λ r. ⌜ r ≡ max a b ⌝ }
-{
-    if a < b { b } else { a }
-}
-
-// A code, nobody woken, nothing changed.
-pub fn refuse(code: i32, queue: Queue) -> Answer
-    ensures { λ r. ⌜ r ≡ refusal code queue ⌝ }
+// A code with a reason and a place, nobody woken, nothing changed.
+pub fn refuse_for(code: i32, reason: u32, place: HeaderPlace, queue: Queue) -> Answer
+    ensures { λ r. ⌜ r ≡ refusal (record { code = code; reason = reason; place = place }) queue ⌝ }
 {
     Answer {
         code: code,
         offset: BlockOffset(0),
+        reason: reason,
+        place: place,
         woken: queue::nobody(),
         queue: queue,
     }
 }
 
-// The block whose offset this is, if any can have it.
-pub fn block_at(offset: BlockOffset) -> Target
-    ensures { λ r. ⌜ r ≡ blockAt offset ⌝ }
+// A code alone.
+pub fn refuse(code: i32, queue: Queue) -> Answer
+    ensures { λ r. ⌜ r ≡ refusal (plain code) queue ⌝ }
+{
+    refuse_for(code, 0, HeaderPlace(0), queue)
+}
+
+// Why an offset is not that of a live block, given the block that holds it: the first test that fails.
+pub fn reason_of(pool: &[u8], offset: BlockOffset, spot: Spot) -> Reason
+    requires { ⌜ (soundPool (now pool) ≡ true) × (seek (sought (target.Holder offset)) 0 0 (blocksOf (now pool)) ≡ found.At spot) ⌝ }
+    ensures { λ r. ⌜ r ≡ reasonOf (misplaced (base (length (now (pool .entry)))) (blocks (base (length (now (pool .entry))))) offset (blocksOf (now (pool .entry)))) ⌝ }
 {
     if offset.0 < 8 {
-        return Target::Nothing;
+        return Reason(OUT_OF_RANGE, HeaderPlace(0));
     }
-    Target::Block(header::place_of(offset))
+    if offset.0 % 4 != 0 {
+        return Reason(MISALIGNED, HeaderPlace(0));
+    }
+    let place = spot.place;
+    let own = header::offset_of(place);
+    if offset.0 != own.0 {
+        return Reason(INSIDE_BLOCK, place);
+    }
+    let owner = header::read_u32(pool, place.0 + 4);
+    if owner == 0 {
+        return Reason(ALREADY_FREE, place);
+    }
+    Reason(0, HeaderPlace(0))
 }
 
 // Tests the state and surveys the pool, in one pass over its headers; the head, if any, must fit no free run.

@@ -10,7 +10,7 @@ use lib.Seq.{drop-drop}
 use denote.Enum.Declared.{tagOf}
 use borrow.Author.Tests.{leb-true, leb-false}
 use Rattle.model.specs.declared.Queue.{Queue}
-use Rattle.model.specs.Pool.{Stored, stored}
+use Rattle.model.specs.Pool.{stored}
 use Rattle.model.proofs.Tests.{by, clash}
 use Rattle.numbers.specs.Wrote.{Wrote}
 use Rattle.numbers.proofs.Wrote.{wrote-append}
@@ -26,7 +26,7 @@ use Rattle.transcript.proofs.Theorems.{records-end, records-bad, records-taken}
 use Rattle.player.specs.declared.Progress.{Progress}
 use Rattle.player.specs.Steps.{replyTo, lastText, longestStep, Stepped}
 use Rattle.replay.specs.declared.Stage.{Stage}
-use Rattle.replay.specs.Stages.{textSpace, pending, Staged, Ready, Played}
+use Rattle.replay.specs.Stages.{textSpace, Ready, Played}
 use types.Run.{OneOf, miss}
 
 -- what `let .. else` tells of an answer of the reader that is no record: its variant is the second or the third

@@ -1,4 +1,5 @@
 // Replays a log of calls from standard input on a pool of zeros, and writes its text to standard output.
+use log::LONGEST_LOG;
 use log::Read;
 use model::LONGEST_POOL;
 use model::Queue;
@@ -9,9 +10,6 @@ ghost use mathlib.Core.Path.{_≡_};
 ghost use lib.ListN.{length, take};
 ghost use Rattle.transcript.specs.Transcript.{longestLog};
 ghost use Rattle.replay.specs.Stages.{textSpace, Ready, Begun, Lent, Played};
-
-// The most bytes of a log.
-const LONGEST_LOG: usize = 65536;
 
 // The bytes of text that are gathered before they are written.
 const TEXT_SPACE: usize = 65536;

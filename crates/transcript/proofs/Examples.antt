@@ -3,7 +3,7 @@ use Prim.Native.Nat.{ℕ}
 use mathlib.Core.Path.{_≡_, refl}
 use mathlib.Core.List.{List, [], _∷_, _++_}
 use lib.IntN.{negsuc}
-use Rattle.model.specs.Blocks.{total, tiled, fits, firstFit, carve, granted, liveAt, join, freed, sumFree, greatestFree}
+use Rattle.model.specs.Blocks.{total, tiled, fits, firstFit, carve, granted, startsAt, join, freed, sumFree, greatestFree}
 use Rattle.model.specs.Bytes.{blocksFrom, le32, header, overlay, written, mask, render, erase}
 use Rattle.model.specs.Waiting.{waits, remove, headTask, insert, blocked, leads, expired, remaining}
 use Rattle.model.specs.Rules.{queued, base}
@@ -81,7 +81,7 @@ no-record-text =
     ++ (101 ∷ 110 ∷ 100 ∷ 32 ∷ 48 ∷ 32 ∷ 114 ∷ 101 ∷ 99 ∷ 111 ∷ 114 ∷ 100 ∷ 115 ∷ 10 ∷ [])
 
 computed : (transcriptOf log ≡ log-text) × (transcriptOf ticks ≡ ticks-text) × (transcriptOf bad ≡ bad-text) × (transcriptOf no-record ≡ no-record-text)
-unfolding total tiled fits firstFit carve granted liveAt join freed sumFree greatestFree blocksFrom le32 header overlay written mask render erase waits remove headTask insert blocked leads expired remaining queued base leave serve headStuck sound tests act pad used allUnused tidy view soundBy performBy create decode readFields limitOf recordOf digits wokenText answerText recordsText poolText transcriptOf
+unfolding total tiled fits firstFit carve granted startsAt join freed sumFree greatestFree blocksFrom le32 header overlay written mask render erase waits remove headTask insert blocked leads expired remaining queued base leave serve headStuck sound tests act pad used allUnused tidy view soundBy performBy create decode readFields limitOf recordOf digits wokenText answerText recordsText poolText transcriptOf
 computed = (refl, refl, refl, refl)
 
 -- an empty log

@@ -18,12 +18,23 @@ pub fn waiting(pool: &Pool) -> Vec<u32> {
     pool.queue().iter().map(|waiter| waiter.task).collect()
 }
 
-/// An answer with nobody woken.
+/// An answer with nobody woken, reason 0 and place 0.
 pub fn answer(code: i32, offset: u32) -> Answer {
     Answer {
         code,
         offset,
         woken: Vec::new(),
+        reason: 0,
+        place: 0,
+    }
+}
+
+/// The answer of a refused release.
+pub fn refused(reason: u32, place: u32) -> Answer {
+    Answer {
+        reason,
+        place,
+        ..answer(-17, 0)
     }
 }
 
@@ -33,9 +44,8 @@ pub fn woke(list: &[(u32, i32, u32)]) -> Answer {
         .iter()
         .map(|&(task, code, offset)| Woken { task, code, offset });
     Answer {
-        code: 0,
-        offset: 0,
         woken: woken.collect(),
+        ..answer(0, 0)
     }
 }
 

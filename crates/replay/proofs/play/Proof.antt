@@ -1,5 +1,5 @@
 -- `play` meets its contract: each turn of its loop keeps `Playing`. Assumes nothing.
-use Prim.Native.Nat.{_≤_, _+_, _-_}
+use Prim.Native.Nat.{_-_}
 use mathlib.Core.Path.{_≡_, refl, _∙_, sym}
 use native.Mathlib.Omega.{arith}
 use lib.ListN.{length, drop}
@@ -9,7 +9,6 @@ use Rattle.log.specs.Record.{recordOf}
 use Rattle.log.proofs.Reading.{suffix}
 use Rattle.log.proofs.Theorems.{record-length}
 use Rattle.transcript.proofs.Writing.{wrote-length}
-use Rattle.player.specs.Steps.{longestStep}
 use Rattle.replay.proofs.Playing.{Playing, playing-starts, playing-taken, playing-last, playing-full}
 use Rattle.replay.proofs.play.Statement.{statement}
 use Rattle.replay.proofs.play.Tie as tie

@@ -1,5 +1,4 @@
 -- `layout::walk::passed` meets its contract. Assumes nothing.
-use native.Mathlib.Omega.{arith}
 use borrow.Author.Needs.{needs}
 use Rattle.layout.proofs.Walking.{pass-live, pass-free}
 use Rattle.layout.proofs.walk.passed.Statement.{statement}
@@ -12,7 +11,6 @@ passed-spec =
     (λ c. search needs)
     (λ c. pass-live _ _ _ (c .if1 .taken))
     (λ c. search needs)
+    (λ c κs. search needs)
     (λ c. search needs)
-    (λ c. pass-free _ _ _ _ (c .before .if1 .left) (omega arith))
-    (λ c. search needs)
-    (λ c. pass-free _ _ _ _ (c .before .if1 .left) (omega arith)))
+    (λ c. pass-free _ _ _ _ (c .before .before .if1 .left) (c .before .greater .ensures)))

@@ -9,7 +9,7 @@ use Rattle.model.specs.Bytes.{blocksOf}
 use Rattle.layout.specs.declared.Seen.{Seen}
 use Rattle.layout.specs.declared.Stop.{Stop}
 use Rattle.layout.specs.declared.Stop.the-variants.{Here, End, Bad}
-use Rattle.layout.specs.Layout.{surveyOf, walkAt, needOf, placeOf}
+use Rattle.layout.specs.Layout.{surveyOf, walkAt, needOf, byteOf}
 use Rattle.layout.proofs.Sound.{Length}
 use Rattle.layout.proofs.Surveying.{resume, reported, unseen, survey-stop, survey-on, stop-sum, refused-uneven, refused-short, refused-long}
 use Rattle.layout.proofs.walk.survey.Statement.{statement}
@@ -19,8 +19,8 @@ use Rattle.layout.proofs.walk.survey.Tie as tie
 long : (c : tie.After-walk-from) → Length (c .before .before .before .before .before .before .before .before .args .s .now)
 long c = record { by-four = c .before .before .before .before .before .before .if1 .left; least = c .before .before .before .before .before .if2 .left; most = c .before .before .before .before .if3 .left }
 
-begun : (c : tie.After-walk-from) → walkAt (needOf (c .before .before .before .before .before .before .before .before .args .target)) (placeOf (c .before .before .before .before .before .before .before .before .args .target)) (c .before .before .before .before .before .before .before .before .args .s .now) unseen ≡ c .walk-from .result
-begun c = sym (c .walk-from .ensures ∙ rw (c .before .before .before .need-of .ensures, c .before .before .place-of .ensures, c .before .unseen .ensures))
+begun : (c : tie.After-walk-from) → walkAt (needOf (c .before .before .before .before .before .before .before .before .args .target)) (byteOf (c .before .before .before .before .before .before .before .before .args .target)) (c .before .before .before .before .before .before .before .before .args .s .now) unseen ≡ c .walk-from .result
+begun c = sym (c .walk-from .ensures ∙ rw (c .before .before .before .need-of .ensures, c .before .before .byte-of .ensures, c .before .unseen .ensures))
 
 stops : (c : tie.After-walk-from) (x : Stop) → c .walk-from .result ≡ x
     → surveyOf (c .before .before .before .before .before .before .before .before .args .target) (c .before .before .before .before .before .before .before .before .args .s .now) ≡ reported x (resume (walkAt (longest-pool + 1) longest-pool (c .before .before .before .before .before .before .before .before .args .s .now)) x)

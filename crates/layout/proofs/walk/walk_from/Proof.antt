@@ -4,70 +4,51 @@ use mathlib.Core.Path.{_≡_, refl, sym, ap, _∙_}
 use mathlib.Core.Bool.{true}
 use native.Mathlib.Omega.{arith}
 use lib.ListN.{length}
-use borrow.Author.Tests.{not-true, not-false, le-leb, lt-leb, eq-eqb, ne-eqb}
+use borrow.Author.Tests.{not-true, not-false}
 use borrow.Author.Needs.{needs}
-use Rattle.model.specs.Limits.{most-tasks}
-use Rattle.model.specs.Blocks.{block, okBlock}
+use Rattle.model.specs.Blocks.{block}
 use Rattle.layout.specs.declared.Seen.{Seen}
-use Rattle.layout.specs.Layout.{walkAt}
-use Rattle.layout.proofs.Walking.{open-block, stands-free, stands-live, unfit, doubled, walk-end, walk-short, walk-bad, walk-here, walk-pass, pass-at, pass-sum}
+use Rattle.layout.specs.Layout.{stands, walkAt}
+use Rattle.layout.proofs.Walking.{open-block, open-stands, close-stands, unfit, walk-end, walk-short, walk-bad, walk-here, walk-pass, pass-at, pass-sum}
 use Rattle.layout.proofs.walk.walk_from.Statement.{statement}
 use Rattle.layout.proofs.walk.walk_from.Tie as tie
 
 abbrev Inv-loop : tie.InvT-loop
-Inv-loop s need place n last v₀ v = (v .sum ≤ v .at) × (walkAt need place s v₀ ≡ walkAt need place s v)
+Inv-loop s need byte n last v₀ v = (v .sum ≤ v .at) × (walkAt need byte s v₀ ≡ walkAt need byte s v)
 
 abbrev μ-loop : tie.MeasureT-loop
-μ-loop s need place n last v₀ v = n - v .at
+μ-loop s need byte n last v₀ v = n - v .at
 
--- the header that was read may stand in a pool
-fit : (c : tie.Else3 Inv-loop μ-loop) → okBlock most-tasks (block (c .before .before .before .read-u32 .result) (c .before .before .read-u322 .result)) ≡ true
-fit c = sym (c .before .is-block .ensures) ∙ not-false _ (c .if3 .left)
+-- the header that was read may stand where it was met
+standing : (c : tie.Else3 Inv-loop μ-loop) → stands (length (c .before .before .before .before .before .before .before .args .s .now)) (c .before .before .before .before .before .loop .v) (block (c .before .before .before .read-u32 .result) (c .before .before .read-u322 .result)) ≡ true
+standing c =
+    close-stands (length (c .before .before .before .before .before .before .before .args .s .now)) (c .before .before .before .before .before .loop .v) (block (c .before .before .before .read-u32 .result) (c .before .before .read-u322 .result)) (omega arith)
+    (sym (c .before .may-stand .ensures) ∙ not-false _ (c .if3 .left))
 
 least : (c : tie.Else3 Inv-loop μ-loop) → 12 ≤ c .before .before .before .read-u32 .result
-least c = open-block (block (c .before .before .before .read-u32 .result) (c .before .before .read-u322 .result)) (fit c) .least
+least c =
+    let b = block (c .before .before .before .read-u32 .result) (c .before .before .read-u322 .result) in
+    open-block b (open-stands (length (c .before .before .before .before .before .before .before .args .s .now)) (c .before .before .before .before .before .loop .v) b (standing c) .fit) .least
 
 passed-requires : tie.Need-passed-requires Inv-loop μ-loop
 passed-requires c κs =
-    (omega (arith, least (c .before .before .before .before)), omega arith, omega (arith, c .before .before .before .before .before .before .before .read-u32 .ensures .small))
+    (omega (arith, least (c .before .before)), omega arith, omega (arith, c .before .before .before .before .before .read-u32 .ensures .small))
 
 loop-less : tie.Need-loop-less Inv-loop μ-loop
 loop-less c =
-    let z = c .before .before .before .before .before .before .before .before .read-u32 .result in
-    let g = least (c .before .before .before .before .before) in
-    let e = ap (λ (w : Seen). w .at) (c .passed .ensures) ∙ pass-at (c .before .before .before .before .before .before .before .before .before .before .loop .v) z (c .before .before .before .before .before .before .before .read-u322 .result) in
+    let z = c .before .before .before .before .before .before .read-u32 .result in
+    let g = least (c .before .before .before) in
+    let e = ap (λ (w : Seen). w .at) (c .passed .ensures) ∙ pass-at (c .before .before .before .before .before .before .before .before .loop .v) z (c .before .before .before .before .before .read-u322 .result) in
     omega arith
 
 loop-again : tie.Need-loop-again Inv-loop μ-loop
 loop-again c =
-    let l = c .before .before .before .before .before .before .before .before .before .before .loop in
-    let z = c .before .before .before .before .before .before .before .before .read-u32 in
-    let o = c .before .before .before .before .before .before .before .read-u322 in
-    let s = stands-free (length (c .before .before .before .before .before .before .before .before .before .before .before .before .args .s .now)) (l .v) (block (z .result) (o .result)) (omega arith) (fit (c .before .before .before .before .before)) (omega (arith, c .before .before .if5 .left)) in
-    rw (c .passed .ensures) (
-      pass-sum (l .v) (z .result) (o .result) (l .inv .0),
-      l .inv .1 ∙ walk-pass _ _ (c .before .before .before .before .before .before .before .before .before .before .before .before .args .s .now) (l .v) (z .result) (o .result) (omega arith) (z .ensures .is) (o .ensures .is) s (rw (eq-eqb _ _ (c .before .before .before .before .if4 .taken), lt-leb _ _ (c .before .if6 .left))),
-    )
-
-passed-requires-2 : tie.Need-passed-requires-2 Inv-loop μ-loop
-passed-requires-2 c κs = (omega (arith, least (c .before .before)), omega arith, omega (arith, c .before .before .before .before .before .read-u32 .ensures .small))
-
-loop-less-2 : tie.Need-loop-less-2 Inv-loop μ-loop
-loop-less-2 c =
-    let z = c .before .before .before .before .before .before .read-u32 .result in
-    let g = least (c .before .before .before) in
-    let e = ap (λ (w : Seen). w .at) (c .passed2 .ensures) ∙ pass-at (c .before .before .before .before .before .before .before .before .loop .v) z (c .before .before .before .before .before .read-u322 .result) in
-    omega arith
-
-loop-again-2 : tie.Need-loop-again-2 Inv-loop μ-loop
-loop-again-2 c =
     let l = c .before .before .before .before .before .before .before .before .loop in
     let z = c .before .before .before .before .before .before .read-u32 in
     let o = c .before .before .before .before .before .read-u322 in
-    let s = stands-live (length (c .before .before .before .before .before .before .before .before .before .before .args .s .now)) (l .v) (block (z .result) (o .result)) (omega arith) (fit (c .before .before .before)) (c .before .before .if4 .left) in
-    rw (c .passed2 .ensures) (
+    rw (c .passed .ensures) (
       pass-sum (l .v) (z .result) (o .result) (l .inv .0),
-      l .inv .1 ∙ walk-pass _ _ (c .before .before .before .before .before .before .before .before .before .before .args .s .now) (l .v) (z .result) (o .result) (omega arith) (z .ensures .is) (o .ensures .is) s (rw (ne-eqb _ _ (c .before .before .if4 .left), ne-eqb _ _ (c .before .if7 .left))),
+      l .inv .1 ∙ walk-pass _ _ (c .before .before .before .before .before .before .before .before .before .before .args .s .now) (l .v) (z .result) (o .result) (omega arith) (z .ensures .is) (o .ensures .is) (standing (c .before .before .before)) (sym (c .before .before .is-wanted .ensures) ∙ c .before .if4 .left),
     )
 
 returns : tie.Need-returns Inv-loop μ-loop
@@ -81,29 +62,14 @@ returns-3 : tie.Need-returns-3 Inv-loop μ-loop
 returns-3 c =
     let l = c .before .before .before .before .before .loop in
     sym (l .inv .1 ∙ walk-bad _ _ (c .before .before .before .before .before .before .before .args .s .now) (l .v) _ _ (omega arith) (c .before .before .before .read-u32 .ensures .is) (c .before .before .read-u322 .ensures .is)
-    (unfit (length (c .before .before .before .before .before .before .before .args .s .now)) (l .v) (block (c .before .before .before .read-u32 .result) (c .before .before .read-u322 .result)) (sym (c .before .is-block .ensures) ∙ not-true _ (c .if3 .taken))))
+    (unfit (length (c .before .before .before .before .before .before .before .args .s .now)) (l .v) (block (c .before .before .before .read-u32 .result) (c .before .before .read-u322 .result)) (sym (c .before .may-stand .ensures) ∙ not-true _ (c .if3 .taken))))
 
 returns-4 : tie.Need-returns-4 Inv-loop μ-loop
 returns-4 c =
-    let l = c .before .before .before .before .before .before .before .before .loop in
-    sym (l .inv .1 ∙ walk-bad _ _ (c .before .before .before .before .before .before .before .before .before .before .args .s .now) (l .v) _ _ (omega arith) (c .before .before .before .before .before .before .read-u32 .ensures .is) (c .before .before .before .before .before .read-u322 .ensures .is)
-    (doubled (length (c .before .before .before .before .before .before .before .before .before .before .args .s .now)) (l .v) (block (c .before .before .before .before .before .before .read-u32 .result) (c .before .before .before .before .before .read-u322 .result)) (c .before .before .if4 .taken) (c .if5 .taken)))
-
-returns-5 : tie.Need-returns-5 Inv-loop μ-loop
-returns-5 c =
-    let l = c .before .before .before .before .before .before .before .before .before .loop in
-    let z = c .before .before .before .before .before .before .before .read-u32 in
-    let o = c .before .before .before .before .before .before .read-u322 in
-    let s = stands-free (length (c .before .before .before .before .before .before .before .before .before .before .before .args .s .now)) (l .v) (block (z .result) (o .result)) (omega arith) (fit (c .before .before .before .before)) (omega (arith, c .before .if5 .left)) in
-    sym (l .inv .1 ∙ walk-here _ _ (c .before .before .before .before .before .before .before .before .before .before .before .args .s .now) (l .v) (z .result) (o .result) (omega arith) (z .ensures .is) (o .ensures .is) s (rw (eq-eqb _ _ (c .before .before .before .if4 .taken), le-leb _ _ (c .if6 .taken))))
-
-returns-6 : tie.Need-returns-6 Inv-loop μ-loop
-returns-6 c =
     let l = c .before .before .before .before .before .before .before .loop in
     let z = c .before .before .before .before .before .read-u32 in
     let o = c .before .before .before .before .read-u322 in
-    let s = stands-live (length (c .before .before .before .before .before .before .before .before .before .args .s .now)) (l .v) (block (z .result) (o .result)) (omega arith) (fit (c .before .before)) (c .before .if4 .left) in
-    sym (l .inv .1 ∙ walk-here _ _ (c .before .before .before .before .before .before .before .before .before .args .s .now) (l .v) (z .result) (o .result) (omega arith) (z .ensures .is) (o .ensures .is) s (rw (ne-eqb _ _ (c .before .if4 .left), eq-eqb _ _ (c .if7 .taken))))
+    sym (l .inv .1 ∙ walk-here _ _ (c .before .before .before .before .before .before .before .before .before .args .s .now) (l .v) (z .result) (o .result) (omega arith) (z .ensures .is) (o .ensures .is) (standing (c .before .before)) (sym (c .before .is-wanted .ensures) ∙ c .if4 .taken))
 
 pub walk-from-spec : {M : Type 1} → statement M
 walk-from-spec =
@@ -117,15 +83,11 @@ walk-from-spec =
     (λ c. omega arith)
     (λ c κs. omega arith)
     (λ c κs. search needs)
+    (λ c κs. omega (arith, c .before .before .before .read-u32 .ensures .small))
     passed-requires
     loop-less
     loop-again
-    passed-requires-2
-    loop-less-2
-    loop-again-2
     returns
     returns-2
     returns-3
-    returns-4
-    returns-5
-    returns-6)
+    returns-4)

@@ -13,7 +13,7 @@ use Rattle.model.specs.Limits.{most-tasks, e-ok}
 use Rattle.model.specs.Bytes.{blocksOf, erase}
 use Rattle.model.specs.Rules.{base}
 use Rattle.model.specs.Calls as calls
-use Rattle.model.specs.Calls.{noOffset}
+use Rattle.model.specs.Calls.{noOffset, noPlace}
 use Rattle.model.specs.Places.{noEntry, pad, used}
 use Rattle.model.proofs.Places.{tidy-is}
 use Rattle.layout.specs.declared.Spot.{Spot}
@@ -123,7 +123,7 @@ returns-2 c =
     let z : x .i ≡ 0 = omega (arith, c .if3 .left) in
     let n : length (entries a) ≡ most-tasks = search needs in
     let w : entries a ≡ pad noEntry most-tasks (used (entries a)) = rw (← n) (tidy-is (entries a) (a .before .before .pre .places)) in
-    loop-answer (x .inv .1) (still (c .before)) _ (rw z (ap {B = Answer} (λ (es : List Entry). record { code = e-ok; offset = noOffset; woken = x .noted; queue = record { entries = es } }) w))
+    loop-answer (x .inv .1) (still (c .before)) _ (rw z (ap {B = Answer} (λ (es : List Entry). record { code = e-ok; offset = noOffset; reason = 0; place = noPlace; woken = x .noted; queue = record { entries = es } }) w))
 
 pub serve-spec : {M : Type 1} → statement M
 serve-spec =

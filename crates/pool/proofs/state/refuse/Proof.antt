@@ -6,7 +6,7 @@ use Rattle.pool.proofs.state.refuse.Statement.{statement}
 use Rattle.pool.proofs.state.refuse.Tie as tie
 
 returns : tie.Need-returns
-returns c = rw (toZ-ofZ w32 (c .before .args .code) (c .before .fits .code), c .nobody .ensures)
+returns c = rw (← toZ-ofZ w32 (c .before .args .code) (c .before .fits .code)) (c .refuse-for .ensures)
 
 pub refuse-spec : {M : Type 1} → statement M
 refuse-spec =
