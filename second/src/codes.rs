@@ -13,6 +13,8 @@ pub const E_PAR: i32 = -17;
 pub const E_ID: i32 = -18;
 /// The calling task waits already.
 pub const E_CTX: i32 = -25;
+/// No room in a lent buffer.
+pub const E_NOMEM: i32 = -33;
 /// The task to be cancelled does not wait.
 pub const E_OBJ: i32 = -41;
 /// The wait was cancelled.

@@ -1,4 +1,5 @@
-//! Compares a program with an own text on dealt logs and log files.
+//! Compares a program's outputs with own ones, such as the texts of dealt logs
+//! and log files.
 
 use std::fs;
 use std::io;
@@ -14,7 +15,7 @@ use crate::replay::Text;
 
 /// Programs run at once.
 const WORKERS: usize = 2;
-/// Bytes read past the expected text.
+/// Bytes read past the expected output.
 const MORE: usize = 4_096;
 
 /// The logs to compare on: dealt ones first, then files.
@@ -29,7 +30,7 @@ impl Logs {
         self.count + self.files.len() as u64
     }
 
-    fn log(&self, index: u64) -> io::Result<Vec<u8>> {
+    pub fn log(&self, index: u64) -> io::Result<Vec<u8>> {
         match index.checked_sub(self.count) {
             None => Ok(deal(self.seed, index)),
             Some(file) => fs::read(&self.files[file as usize]),
@@ -37,93 +38,145 @@ impl Logs {
     }
 }
 
-/// A log on which the program differs.
-pub struct Difference {
-    pub index: u64,
-    pub log: Vec<u8>,
-    pub expected: String,
-    pub outcome: Outcome,
+/// An input for a program, and the output it must have.
+pub struct Case {
+    pub input: Vec<u8>,
+    pub expected: Vec<u8>,
 }
 
-impl Difference {
+/// Cases to compare on, numbered from 0.
+pub trait Cases: Sync {
+    /// Count of the cases, skipped ones too.
+    fn total(&self) -> u64;
+
+    /// Case number `index`, or `None` if it is skipped.
+    fn case(&self, index: u64) -> io::Result<Option<Case>>;
+
+    /// Tells of a case on which the program differs.
+    fn report(&self, difference: &Difference) -> String;
+}
+
+/// Logs with the text that a program must write for each.
+pub struct Texts {
+    pub text: Text,
+    pub logs: Logs,
+}
+
+impl Cases for Texts {
+    fn total(&self) -> u64 {
+        self.logs.total()
+    }
+
+    fn case(&self, index: u64) -> io::Result<Option<Case>> {
+        let input = self.logs.log(index)?;
+        let expected = (self.text)(&input).into_bytes();
+        Ok(Some(Case { input, expected }))
+    }
+
     /// The report: number, log in hex, and both texts.
-    pub fn report(&self) -> String {
-        let actual = String::from_utf8_lossy(&self.outcome.output);
-        let same = self
-            .expected
+    fn report(&self, difference: &Difference) -> String {
+        let expected = String::from_utf8_lossy(&difference.case.expected);
+        let actual = String::from_utf8_lossy(&difference.outcome.output);
+        let same = expected
             .lines()
             .zip(actual.lines())
             .take_while(|(a, b)| a == b)
             .count();
         format!(
             "log {} differs at line {} ({})\nlog in hex:\n{}\nexpected:\n{}program:\n{}",
-            self.index,
+            difference.index,
             same + 1,
-            self.outcome.status,
-            to_hex(&self.log),
-            self.expected,
+            difference.outcome.status,
+            to_hex(&difference.case.input),
+            expected,
             actual
         )
     }
 }
 
-/// Runs the program on one log and answers the difference, if any.
+/// A case on which the program differs.
+pub struct Difference {
+    pub index: u64,
+    pub case: Case,
+    pub outcome: Outcome,
+}
+
+/// What a comparison finds.
+pub enum Finding {
+    /// Every case that was run is equal; their count.
+    Equal(u64),
+    /// The difference with the lowest number.
+    Different(Difference),
+}
+
+/// What the threads of a comparison share.
+struct Progress {
+    next: AtomicU64,
+    passed: AtomicU64,
+    first: Mutex<io::Result<Option<Difference>>>,
+}
+
+/// Compares the program's output with the expected one of each case.
+pub fn compare(program: &Path, cases: &impl Cases) -> io::Result<Finding> {
+    let progress = Progress {
+        next: AtomicU64::new(0),
+        passed: AtomicU64::new(0),
+        first: Mutex::new(Ok(None)),
+    };
+    thread::scope(|scope| {
+        for _ in 0..WORKERS {
+            scope.spawn(|| work(program, cases, &progress));
+        }
+    });
+    let first = progress.first.into_inner().expect("no thread panicked")?;
+    Ok(match first {
+        Some(difference) => Finding::Different(difference),
+        None => Finding::Equal(progress.passed.into_inner()),
+    })
+}
+
+/// Takes cases in order until none is left or a difference is found. A case
+/// taken before the difference was found is still finished.
+fn work(program: &Path, cases: &impl Cases, progress: &Progress) {
+    loop {
+        let index = progress.next.fetch_add(1, Ordering::SeqCst);
+        if index >= cases.total() {
+            return;
+        }
+        let result = compare_one(program, cases, index, &progress.passed);
+        if matches!(result, Ok(None)) {
+            continue;
+        }
+        progress.next.store(cases.total(), Ordering::SeqCst);
+        keep_lowest(
+            &mut progress.first.lock().expect("no thread panicked"),
+            result,
+        );
+        return;
+    }
+}
+
+/// Runs the program on one case, unless it is skipped, and answers the
+/// difference, if any.
 fn compare_one(
     program: &Path,
-    text: Text,
+    cases: &impl Cases,
     index: u64,
-    log: Vec<u8>,
+    passed: &AtomicU64,
 ) -> io::Result<Option<Difference>> {
-    let expected = text(&log);
-    let outcome = run(program, &log, expected.len() + MORE)?;
-    if outcome.output == expected.as_bytes() && outcome.exited() {
+    let Some(case) = cases.case(index)? else {
+        return Ok(None);
+    };
+    let outcome = run(program, &case.input, case.expected.len() + MORE)?;
+    if outcome.output == case.expected && outcome.exited() {
+        passed.fetch_add(1, Ordering::SeqCst);
         return Ok(None);
     }
     Ok(Some(Difference {
         index,
-        log,
-        expected,
+        case,
         outcome,
     }))
-}
-
-/// Compares the program's output with the text of each log and answers the
-/// difference with the lowest number.
-pub fn compare(program: &Path, text: Text, logs: &Logs) -> io::Result<Option<Difference>> {
-    let next = AtomicU64::new(0);
-    let first: Mutex<io::Result<Option<Difference>>> = Mutex::new(Ok(None));
-    thread::scope(|scope| {
-        for _ in 0..WORKERS {
-            scope.spawn(|| work(program, text, logs, &next, &first));
-        }
-    });
-    first.into_inner().expect("no thread panicked")
-}
-
-/// Takes logs in order until none is left or a difference is found. A log
-/// taken before the difference was found is still finished.
-fn work(
-    program: &Path,
-    text: Text,
-    logs: &Logs,
-    next: &AtomicU64,
-    first: &Mutex<io::Result<Option<Difference>>>,
-) {
-    loop {
-        let index = next.fetch_add(1, Ordering::SeqCst);
-        if index >= logs.total() {
-            return;
-        }
-        let result = logs
-            .log(index)
-            .and_then(|log| compare_one(program, text, index, log));
-        if matches!(result, Ok(None)) {
-            continue;
-        }
-        next.store(logs.total(), Ordering::SeqCst);
-        keep_lowest(&mut first.lock().expect("no thread panicked"), result);
-        return;
-    }
 }
 
 fn keep_lowest(first: &mut io::Result<Option<Difference>>, found: io::Result<Option<Difference>>) {

@@ -1,10 +1,11 @@
 //! A variable-size memory pool with one waiting queue, kept as an ordered list
-//! of runs without any header bytes, and tools that replay, deal and compare
-//! logs of calls.
+//! of runs without any header bytes, and tools that replay, write, deal and
+//! compare logs of calls.
 
 pub mod check;
 pub mod codes;
 pub mod compare;
+pub mod compare_write;
 pub mod coverage;
 pub mod damage;
 pub mod deal;
@@ -17,8 +18,12 @@ pub mod pool;
 pub mod process;
 pub mod queue;
 pub mod replay;
+pub mod request;
+pub mod request_deal;
+pub mod request_edges;
 pub mod rng;
 pub mod runs;
 pub mod shapes;
 pub mod timing;
 pub mod workload;
+pub mod writer;

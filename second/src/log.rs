@@ -1,15 +1,16 @@
-//! Records of a log.
+//! Records of a log, and whole logs.
 
 use crate::number::{read_number, write_number, NumberFault};
 
 /// The greatest limit field: a limit of 2^31 - 1, plus 1.
 pub const MAX_LIMIT_FIELD: u32 = 1 << 31;
 
-const GET: u32 = 1;
-const POLL: u32 = 2;
-const RELEASE: u32 = 3;
-const CANCEL: u32 = 4;
-const TICK: u32 = 5;
+/// Kinds of records.
+pub const GET: u32 = 1;
+pub const POLL: u32 = 2;
+pub const RELEASE: u32 = 3;
+pub const CANCEL: u32 = 4;
+pub const TICK: u32 = 5;
 
 /// One call of a log.
 #[derive(Clone, Copy, Debug, PartialEq, Eq)]
@@ -111,4 +112,30 @@ pub fn write_record(out: &mut Vec<u8>, record: Record) {
         Record::Cancel { task } => numbers(out, &[CANCEL, task]),
         Record::Tick => numbers(out, &[TICK]),
     }
+}
+
+/// Reads a whole log: N and the records. `None` if one of them is bad.
+pub fn read_log(log: &[u8]) -> Option<(u32, Vec<Record>)> {
+    let (len, mut place) = read_number(log).ok()?;
+    let mut records = Vec::new();
+    loop {
+        match read_record(&log[place..]) {
+            Reading::Record(record, after) => {
+                records.push(record);
+                place += after;
+            }
+            Reading::End => return Some((len, records)),
+            Reading::Bad(_) => return None,
+        }
+    }
+}
+
+/// The log of N and records. A get's limit must be at least -1.
+pub fn log_bytes(len: u32, records: &[Record]) -> Vec<u8> {
+    let mut log = Vec::new();
+    write_number(&mut log, len);
+    for &record in records {
+        write_record(&mut log, record);
+    }
+    log
 }

@@ -5,21 +5,25 @@ use std::path::{Path, PathBuf};
 use std::process::ExitCode;
 
 use second::check::check_folder;
-use second::compare::{compare, Logs};
+use second::compare::{compare, Cases, Finding, Logs, Texts};
+use second::compare_write::Requests;
 use second::coverage::Coverage;
 use second::deal::deal;
 use second::hex::to_hex;
 use second::replay::{reasons_text, replay_text, Text, MAX_LOG};
+use second::request::{reply, MAX_REQUEST};
 use second::timing::best_times;
 use second::workload::{ticks, workload};
 
 const USAGE: &str = "usage:
   second replay < LOG
   second reasons < LOG
+  second write < REQUEST
   second deal SEED COUNT
   second count SEED COUNT
   second compare PROGRAM SEED COUNT [LOG_FILE..]
   second compare-reasons PROGRAM SEED COUNT [LOG_FILE..]
+  second compare-write PROGRAM SEED COUNT [LOG_FILE..]
   second check FOLDER [PROGRAM]
   second workload full|small|waiters|mixed
   second workload ticks BLOCKS WAITERS TICKS
@@ -50,10 +54,12 @@ fn run(arguments: &[String]) -> io::Result<Option<ExitCode>> {
     match words.as_slice() {
         ["replay"] => write_text(replay_text).map(Some),
         ["reasons"] => write_text(reasons_text).map(Some),
+        ["write"] => write_reply().map(Some),
         ["deal", seed, count] => with_numbers(seed, count, deal_logs),
         ["count", seed, count] => with_numbers(seed, count, count_logs),
-        ["compare", rest @ ..] => compare_with(replay_text, rest),
-        ["compare-reasons", rest @ ..] => compare_with(reasons_text, rest),
+        ["compare", rest @ ..] => compare_texts(replay_text, rest),
+        ["compare-reasons", rest @ ..] => compare_texts(reasons_text, rest),
+        ["compare-write", rest @ ..] => compare_with(Requests::new, rest),
         ["check", folder] => check(folder, None).map(Some),
         ["check", folder, program] => check(folder, Some(Path::new(program))).map(Some),
         ["workload", name] => write_log(workload(name)),
@@ -74,14 +80,27 @@ fn with_numbers(
     }
 }
 
-/// Writes the text of the log on standard input.
-fn write_text(text: Text) -> io::Result<ExitCode> {
-    let mut log = Vec::new();
+/// Reads standard input, at most one byte more than `most`.
+fn read_input(most: usize) -> io::Result<Vec<u8>> {
+    let mut input = Vec::new();
     io::stdin()
         .lock()
-        .take(MAX_LOG as u64 + 1)
-        .read_to_end(&mut log)?;
+        .take(most as u64 + 1)
+        .read_to_end(&mut input)?;
+    Ok(input)
+}
+
+/// Writes the text of the log on standard input.
+fn write_text(text: Text) -> io::Result<ExitCode> {
+    let log = read_input(MAX_LOG)?;
     io::stdout().lock().write_all(text(&log).as_bytes())?;
+    Ok(ExitCode::SUCCESS)
+}
+
+/// Writes the reply to the request on standard input.
+fn write_reply() -> io::Result<ExitCode> {
+    let request = read_input(MAX_REQUEST)?;
+    io::stdout().lock().write_all(&reply(&request))?;
     Ok(ExitCode::SUCCESS)
 }
 
@@ -111,24 +130,36 @@ fn count_logs(seed: u64, count: u64) -> io::Result<ExitCode> {
 }
 
 /// Compares a program with a text; `None` if the arguments are wrong.
-fn compare_with(text: Text, arguments: &[&str]) -> io::Result<Option<ExitCode>> {
+fn compare_texts(text: Text, arguments: &[&str]) -> io::Result<Option<ExitCode>> {
+    compare_with(|logs| Texts { text, logs }, arguments)
+}
+
+/// Compares a program on the cases of logs; `None` if the arguments are wrong.
+fn compare_with<C: Cases>(
+    cases: impl FnOnce(Logs) -> C,
+    arguments: &[&str],
+) -> io::Result<Option<ExitCode>> {
     let [program, seed, count, files @ ..] = arguments else {
         return Ok(None);
     };
     let files: Vec<PathBuf> = files.iter().map(PathBuf::from).collect();
     with_numbers(seed, count, |seed, count| {
-        compare_logs(Path::new(program), text, Logs { seed, count, files })
+        compare_cases(Path::new(program), &cases(Logs { seed, count, files }))
     })
 }
 
-fn compare_logs(program: &Path, text: Text, logs: Logs) -> io::Result<ExitCode> {
+fn compare_cases(program: &Path, cases: &impl Cases) -> io::Result<ExitCode> {
     let mut out = io::stdout().lock();
-    if let Some(difference) = compare(program, text, &logs)? {
-        writeln!(out, "{}", difference.report())?;
-        return Ok(ExitCode::FAILURE);
+    match compare(program, cases)? {
+        Finding::Equal(count) => {
+            writeln!(out, "{count} passed, 0 failed")?;
+            Ok(ExitCode::SUCCESS)
+        }
+        Finding::Different(difference) => {
+            writeln!(out, "{}", cases.report(&difference))?;
+            Ok(ExitCode::FAILURE)
+        }
     }
-    writeln!(out, "{} passed, 0 failed", logs.total())?;
-    Ok(ExitCode::SUCCESS)
 }
 
 fn check(folder: &str, program: Option<&Path>) -> io::Result<ExitCode> {

@@ -1,4 +1,4 @@
-//! Runs a program on one log.
+//! Runs a program on one input.
 
 use std::io::{self, Read, Write};
 use std::path::Path;
@@ -11,7 +11,7 @@ use std::time::Duration;
 /// A program that runs longer than this is ended.
 const TIME_LIMIT: Duration = Duration::from_secs(30);
 
-/// What a program did with a log.
+/// What a program did with an input.
 pub struct Outcome {
     pub output: Vec<u8>,
     pub status: ExitStatus,
@@ -24,9 +24,9 @@ impl Outcome {
     }
 }
 
-/// Gives `log` to the program's standard input and reads at most `most` bytes
+/// Gives `input` to the program's standard input and reads at most `most` bytes
 /// of its standard output. A program that writes more is ended.
-pub fn run(program: &Path, log: &[u8], most: usize) -> io::Result<Outcome> {
+pub fn run(program: &Path, input: &[u8], most: usize) -> io::Result<Outcome> {
     let mut child = Command::new(program)
         .stdin(Stdio::piped())
         .stdout(Stdio::piped())
@@ -36,7 +36,7 @@ pub fn run(program: &Path, log: &[u8], most: usize) -> io::Result<Outcome> {
     let child = Mutex::new(child);
     let (ended, end) = channel();
     let output = thread::scope(|scope| {
-        scope.spawn(|| stdin.map(|stdin| feed(stdin, log)));
+        scope.spawn(|| stdin.map(|stdin| feed(stdin, input)));
         scope.spawn(|| watch(&child, end));
         let mut output = Vec::new();
         let read = match stdout {
@@ -55,8 +55,8 @@ pub fn run(program: &Path, log: &[u8], most: usize) -> io::Result<Outcome> {
 }
 
 /// A program may stop reading early, so a closed pipe is no error.
-fn feed(mut stdin: ChildStdin, log: &[u8]) {
-    let _ = stdin.write_all(log);
+fn feed(mut stdin: ChildStdin, input: &[u8]) {
+    let _ = stdin.write_all(input);
 }
 
 /// Ends the program if its output is not complete in time.

@@ -6,9 +6,12 @@ use std::os::unix::fs::PermissionsExt;
 use std::path::{Path, PathBuf};
 use std::process::{Command, Output};
 
+use second::compare_write::log_case;
 use second::deal::deal;
 use second::hex::{from_hex, to_hex};
 use second::replay::{reasons_text, replay_text};
+use second::request_edges::edge_requests;
+use second::rng::Rng;
 use second::workload::{workload, WORKLOADS};
 
 const SECOND: &str = env!("CARGO_BIN_EXE_second");
@@ -47,15 +50,20 @@ fn compare_equal(folder: &Path) {
     assert_eq!(output.status.code(), Some(0));
 }
 
-/// The output of a command with a log on its standard input.
-fn on_log(command: &str, log: &Path) -> String {
+/// The output of a command with a file on its standard input.
+fn on_file(command: &str, file: &Path) -> Output {
     let output = Command::new(SECOND)
         .arg(command)
-        .stdin(File::open(log).expect("log opened"))
+        .stdin(File::open(file).expect("file opened"))
         .output()
         .expect("the program starts");
     assert_eq!(output.status.code(), Some(0));
-    stdout(&output)
+    output
+}
+
+/// The text of a command with a log on its standard input.
+fn on_log(command: &str, log: &Path) -> String {
+    stdout(&on_file(command, log))
 }
 
 /// Example c of the specification, then releases of 0, 9, 12, 56 and 8.
@@ -85,6 +93,99 @@ fn compare_reasons(folder: &Path) {
     let log = fs::read(&file).expect("log read");
     assert!(report.contains(&to_hex(&log)) && report.contains(&reasons_text(&log)));
     assert_eq!(second(&["compare-reasons", &good]).status.code(), Some(2));
+}
+
+/// A get of 10 bytes by task 1 into a buffer of 8 bytes, and its reply. A byte
+/// more, and the request has no reply.
+fn write_reply(folder: &Path) {
+    let path = folder.join("request");
+    let hex = "08000000 40000000 01000000 01000000 01000000 01000000
+        01000000 01000000 0A000000 FFFFFFFF";
+    let mut request = from_hex(hex).expect("hex digits");
+    fs::write(&path, &request).expect("request written");
+    let reply = b"0 5\n\x40\x01\x01\x0A\x00\x05\x06\x07";
+    assert_eq!(on_file("write", &path).stdout, reply);
+    request.push(0);
+    fs::write(&path, &request).expect("request written");
+    assert_eq!(on_file("write", &path).stdout, []);
+    assert_eq!(second(&["write", "1"]).status.code(), Some(2));
+}
+
+fn compare_write_equal(folder: &Path) {
+    let good = script(folder, "write", &format!("exec '{SECOND}' write"));
+    let extra = folder.join("extra.log").display().to_string();
+    let cut = folder.join("cut.log");
+    fs::write(&cut, [0x40, 0x05, 0x03]).expect("log written");
+    let cut = cut.display().to_string();
+    let output = second(&["compare-write", &good, "1", "50", &cut, &extra, &cut]);
+    let written = |index: &u64| log_case(&mut Rng::new(1, 1), &deal(1, *index)).is_some();
+    let logs = (0..50).filter(written).count();
+    assert!(logs < 50);
+    let total = edge_requests().len() + 50 + logs + 1;
+    assert_eq!(stdout(&output), format!("{total} passed, 0 failed\n"));
+    assert_eq!(output.status.code(), Some(0));
+    assert_eq!(second(&["compare-write", &good]).status.code(), Some(2));
+    let missing = folder.join("missing.log").display().to_string();
+    let output = second(&["compare-write", &good, "1", "0", &missing]);
+    assert_eq!(output.status.code(), Some(2));
+}
+
+/// The report of a program that differs.
+fn report_of_write(bad: &str, files: &[&str]) -> String {
+    let arguments = [&["compare-write", bad, "1", "50"], files].concat();
+    let output = second(&arguments);
+    assert_eq!(output.status.code(), Some(1));
+    stdout(&output)
+}
+
+/// A wrong code, and a wrong byte behind the log.
+fn compare_write_different(folder: &Path) {
+    let edges = edge_requests();
+    let first = |test: fn(&[u8]) -> bool| {
+        let found = edges.iter().position(|edge| test(&edge.reply()));
+        found.expect("some reply is such")
+    };
+    let body = format!("'{SECOND}' write | LC_ALL=C sed '1s/^-33/-17/'");
+    let report = report_of_write(&script(folder, "no_33", &body), &[]);
+    let index = first(|reply| reply.starts_with(b"-33 "));
+    let hex = to_hex(&edges[index].to_bytes());
+    let expected = format!(
+        "request {index} differs at byte 1 (exit status: 0)\nrequest in hex:\n{hex}\n\
+         expected: -33 0\nprogram: -17 0\n"
+    );
+    assert_eq!(report, expected);
+    let body = format!("'{SECOND}' write | LC_ALL=C tr '\\022' '\\023'");
+    let report = report_of_write(&script(folder, "no_18", &body), &[]);
+    let index = first(|reply| reply.contains(&18));
+    let start = format!("request {index} differs at byte 24 ");
+    assert!(report.starts_with(&start), "{report}");
+}
+
+/// A program that is wrong on the request of one log file only, and one that
+/// is wrong on a very long request only.
+fn compare_write_single_faults(folder: &Path) {
+    let odd = folder.join("odd.log");
+    fs::write(&odd, [0x45, 0x05]).expect("log written");
+    let body = |test: &str| {
+        format!(
+            "cat > \"$0.$$\"\nif {test}; then echo wrong; else '{SECOND}' write < \"$0.$$\"; fi\n\
+             rm \"$0.$$\""
+        )
+    };
+    let test = "[ \"$(od -An -tu4 -N8 \"$0.$$\" | tr -s ' ')\" = ' 2 69' ]";
+    let bad = script(folder, "no_odd", &body(test));
+    let report = report_of_write(&bad, &[&odd.display().to_string()]);
+    let index = edge_requests().len() + 100;
+    let start = format!("request {index} differs at byte 0 ");
+    assert!(report.starts_with(&start), "{report}");
+    assert!(report.ends_with("expected: 0 2\nprogram: wrong\n"));
+    let test = "[ $(wc -c < \"$0.$$\") -gt 65560 ]";
+    let bad = script(folder, "no_long", &body(test));
+    let report = report_of_write(&bad, &[]);
+    assert!(
+        report.contains(" more bytes\n") && report.len() < 2_500,
+        "{report}"
+    );
 }
 
 fn compare_different(folder: &Path) {
@@ -212,6 +313,10 @@ fn commands() {
     compare_other_faults(&folder);
     texts_of_a_log(&folder);
     compare_reasons(&folder);
+    write_reply(&folder);
+    compare_write_equal(&folder);
+    compare_write_different(&folder);
+    compare_write_single_faults(&folder);
     check_stored(&folder);
     deal_and_count();
     workloads();

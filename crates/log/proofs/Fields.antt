@@ -1,16 +1,18 @@
 -- Laws of several numbers one after another, for any count of them. Assumes nothing.
-use Prim.Native.Nat.{ℕ, zero, suc, _+_, _*_, _≤_}
-use mathlib.Core.Path.{_≡_, refl, ap}
+use Prim.Native.Nat.{ℕ, zero, suc, _+_, _*_, _≤_, _<_}
+use mathlib.Core.Path.{_≡_, refl, ap, _∙_}
 use mathlib.Core.List.{List, [], _∷_, _++_, append-assoc}
 use native.Mathlib.Omega.{arith}
 use native.Mathlib.Nat.{add-assoc}
-use lib.ListN.{length, take, drop, length-append, length-drop}
-use lib.Seq.{take-add, getD-drop, drop-append-seam}
+use native.Mathlib.Numerals.{add-one}
+use lib.ListN.{length, take, drop, getD, length-append, length-drop, drop-of-length-le}
+use lib.Seq.{take-add, drop-cons, getD-drop, drop-append-seam}
 use Rattle.numbers.specs.declared.Number.{Number}
 use Rattle.numbers.specs.declared.Number.the-variants.{Value, Refused}
-use Rattle.numbers.specs.Number.{Bytes, numberOf, encode}
-use Rattle.numbers.proofs.Theorems.{number-encode, encode-number, number-small, number-within, number-five}
-use Rattle.log.specs.Fields.{Fields, Fields·read, Fields·refused, before, first, readFields, encodeFields, Small}
+use Rattle.numbers.specs.Number.{Bytes, numberBound, numberOf, encode}
+use Rattle.numbers.proofs.Theorems.{number-encode, encode-number, number-small, number-within, number-five, encode-length}
+use Rattle.log.specs.Fields.{Fields, Fields·read, Fields·refused, before, first, readFields, encodeFields, fieldsLength, Small}
+use Rattle.log.specs.Steps.{Counted}
 
 pub before-before : (xs : List ℕ) (a : ℕ) (ys : List ℕ) (b : ℕ) (r : Fields) → before xs a (before ys b r) ≡ before (xs ++ ys) (a + b) r
 before-before xs a ys b (Fields·read zs c) = rw (append-assoc xs ys zs, add-assoc a b c)
@@ -28,6 +30,17 @@ read-encode (v ∷ vs) rest h =
       read-encode vs rest (h .1),
       length-append (encode v) (encodeFields vs),
     )
+
+-- how many bytes they need
+pub length-fields : (vs : List ℕ) → length (encodeFields vs) ≡ fieldsLength vs
+unfolding encodeFields fieldsLength
+length-fields [] = refl
+length-fields (v ∷ vs) = length-append (encode v) (encodeFields vs) ∙ rw (length-fields vs)
+
+pub fields-most : (vs : List ℕ) → Small vs → fieldsLength vs ≤ 5 * length vs
+unfolding fieldsLength
+fields-most [] h = omega arith
+fields-most (v ∷ vs) h = omega (arith, encode-length v (h .0), fields-most vs (h .1))
 
 -- what the first k numbers of s are
 pub record Listed (k : ℕ) (s vs : List ℕ) (n : ℕ) : Type 0 where
@@ -76,3 +89,33 @@ read-listed zero s vs n e =
     let y : 0 ≡ n = cc in
     rw (← x, ← y) (record { count = refl; small = tt; inside = omega arith; most = omega arith; bytes = λ bs. refl })
 read-listed (suc k) s vs n e = listed-first k s vs n (λ m. read-listed k (drop m s)) (numberOf s) refl e
+
+-- ---- numbers one after another, from the place i on
+
+module _ (vs : List ℕ) (i : ℕ) where
+  pub encode-next : i < length vs → encodeFields (drop i vs) ≡ encode (getD vs i 0) ++ encodeFields (drop (i + 1) vs)
+  unfolding encodeFields
+  encode-next h = rw (add-one i, drop-cons vs i 0 h)
+
+  pub encode-past : length vs ≤ i → encodeFields (drop i vs) ≡ []
+  unfolding encodeFields
+  encode-past h = rw (drop-of-length-le vs h)
+
+-- the bytes of the first i numbers were counted
+pub record Counting (vs : List ℕ) (i sum : ℕ) : Type 0 where
+  pub bytes : sum + fieldsLength (drop i vs) ≡ fieldsLength vs
+  pub few : sum ≤ 5 * i
+  pub within : i ≤ length vs
+
+module _ {vs : List ℕ} {i sum : ℕ} (g : Counting vs i sum) where
+  pub counting-next : i < length vs → getD vs i 0 < numberBound → Counting vs (i + 1) (sum + length (encode (getD vs i 0)))
+  unfolding fieldsLength
+  counting-next h l =
+      let next : fieldsLength (drop i vs) ≡ length (encode (getD vs i 0)) + fieldsLength (drop (i + 1) vs) = rw (add-one i, drop-cons vs i 0 h) in
+      record { bytes = omega (arith, g .bytes); few = omega (arith, g .few, encode-length (getD vs i 0) l); within = omega arith }
+
+  pub counting-end : length vs ≤ i → Counted vs sum
+  unfolding fieldsLength
+  counting-end h =
+      let past : fieldsLength (drop i vs) ≡ 0 = rw (drop-of-length-le vs h) in
+      record { bytes = omega (arith, g .bytes); few = omega (arith, g .few, g .within) }

@@ -1,19 +1,26 @@
 -- Laws of the kinds of record: a get's limit and its field, a kind's number, and the record made of a kind's fields. Assumes nothing.
-use Prim.Native.Nat.{ℕ, zero, suc, _-_, _<_, _≤_}
+use Prim.Native.Nat.{ℕ, zero, suc, _+_, _-_, _<_, _≤_}
 use mathlib.Core.Path.{_≡_, refl, sym, ap, _∙_}
+use mathlib.Core.Bool.{true, false}
 use mathlib.Core.List.{List, [], _∷_}
 use mathlib.Core.Logic.{⊎-elim}
 use native.Mathlib.Omega.{arith}
-use lib.IntN.{ℤ, pos, negsuc}
+use native.Mathlib.Numerals.{add-one}
+use mir.Syntax.{w32}
+use mir.Val.{Fits, SFits, toZ, ofZ}
+use mir.ValLaws.{toZ-ofZ}
+use lib.Dec.{T}
+use lib.IntN.{ℤ, pos, negsuc, natAbs}
+use lib.Signed.{ltZ, leZ, nonNeg}
 use lib.ListN.{length, take, getD, List·getD-eq-default}
-use borrow.Author.Tests.{le-leb, lt-leb}
+use borrow.Author.Tests.{le-leb, lt-leb, lt-ltb, ltb-true, eqb-true, ne-eqb}
 use Rattle.numbers.proofs.Decode.{side}
 use Rattle.log.specs.declared.Record.{Record}
 use Rattle.log.specs.declared.Record.the-variants.{Get, Poll, Release, Cancel, Tick}
 use Rattle.log.specs.declared.Kind.{Kind}
 use Rattle.log.specs.declared.Kind.the-variants as kind
 use Rattle.log.specs.declared.Read.the-variants.{Taken, Bad}
-use Rattle.log.specs.Record.{limitBound, limitOf, limitField, Limit, Limited, fieldsOf, kinds, kindOf, fieldCount, recordFrom}
+use Rattle.log.specs.Record.{limitBound, limitOf, limitField, isLimit, Limited, fieldsOf, kinds, kindOf, fieldCount, recordFrom}
 
 -- a limit and its field
 pub limit-none : (field : ℕ) → field ≡ 0 → negsuc 0 ≡ limitOf field
@@ -25,15 +32,44 @@ unfolding limitOf
 limit-some zero h = absurd (h refl)
 limit-some (suc n) h = ap pos (omega arith)
 
-pub limit-field : (limit : ℤ) → Limit limit → (limitOf (limitField limit) ≡ limit) × (limitField limit ≤ limitBound)
+pub limit-field : (limit : ℤ) → isLimit limit ≡ true → (limitOf (limitField limit) ≡ limit) × (limitField limit ≤ limitBound)
 unfolding limitOf limitField
-limit-field (pos n) h = (refl, omega arith)
-limit-field (negsuc n) h = (rw h, omega arith)
+limit-field (pos n) h = (refl, omega (arith, ltb-true n limitBound h))
+limit-field (negsuc n) h = (rw (eqb-true n 0 h), omega arith)
 
-field-limit : (field : ℕ) → field ≤ limitBound → (limitField (limitOf field) ≡ field) × Limit (limitOf field)
+field-limit : (field : ℕ) → field ≤ limitBound → (limitField (limitOf field) ≡ field) × (isLimit (limitOf field) ≡ true)
 unfolding limitOf limitField
 field-limit zero h = (refl, refl)
-field-limit (suc n) h = (refl, omega arith)
+field-limit (suc n) h = (refl, lt-ltb n limitBound (omega arith))
+
+-- the same of a limit as the code reads it
+abbrev read : ℤ → ℤ
+read z = toZ w32 (ofZ w32 z)
+
+pub limit-test : (limit : ℤ) → SFits w32 limit → leZ (negsuc 0) (read limit) ≡ isLimit limit
+limit-test (pos n) f = rw (toZ-ofZ w32 (pos n) f) (sym (lt-ltb n limitBound (f .sfits)))
+limit-test (negsuc zero) f = refl
+limit-test (negsuc (suc n)) f =
+    rw (toZ-ofZ w32 (negsuc (suc n)) f, lt-leb (suc n) 0 (omega arith), ne-eqb (suc n) 0 (λ z. omega arith))
+
+pub field-none : (limit : ℤ) → SFits w32 limit → ltZ (read limit) (pos 0) ≡ true → 0 ≡ limitField limit
+unfolding limitField
+field-none (pos n) f t = absurd (omega (arith, ltb-true n 0 (rw (toZ-ofZ w32 (pos n) f) at t)))
+field-none (negsuc n) f t = refl
+
+pub record Ticks (limit : ℤ) : Type 0 where
+  pub cast : T (nonNeg (read limit)) × Fits w32 (natAbs (read limit))
+  pub fits : Fits w32 (natAbs (read limit) + 1)
+  pub field : natAbs (read limit) + 1 ≡ limitField limit
+
+pub field-some : (limit : ℤ) → SFits w32 limit → ltZ (read limit) (pos 0) ≡ false → Ticks limit
+unfolding limitField
+field-some (pos n) f t =
+    let l : n < limitBound = f .sfits in
+    let a : read (pos n) ≡ pos n = toZ-ofZ w32 (pos n) f in
+    record { cast = rw a (tt, omega arith); fits = rw a (omega arith); field = rw a (add-one n) }
+field-some (negsuc n) f t =
+    let a : true ≡ false = rw (toZ-ofZ w32 (negsuc n) f) at t in let z : _≡_ {A = ℕ} 0 1 = cc in absurd (omega arith)
 
 pub get-limited : (task size limit n : ℕ) → limit ≤ limitBound → Taken (Get task size (limitOf limit)) n ≡ recordFrom kind.Get task size limit n
 get-limited task size limit n h = rw (le-leb limit limitBound h)

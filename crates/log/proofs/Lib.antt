@@ -3,4 +3,8 @@ pub mod Forms
 pub mod Reading
 pub mod Records
 pub mod Theorems
+pub mod Logs
+pub mod Rows
+pub mod Writing
+pub mod LogTheorems
 pub mod Examples

@@ -2,20 +2,24 @@
 use Prim.Native.Nat.{ℕ, suc, _+_, _≤_}
 use mathlib.Core.Path.{_≡_, refl, sym, _∙_}
 use mathlib.Core.List.{List, [], _∷_, _++_, append-assoc}
+use mathlib.Core.Logic.{⊎-elim}
 use native.Mathlib.Omega.{arith}
 use lib.ListN.{length, drop, getD, length-append}
 use lib.Seq.{drop-append-seam}
 use Rattle.numbers.specs.declared.Number.{Number}
 use Rattle.numbers.specs.declared.Number.the-variants.{Value, Refused}
 use Rattle.numbers.specs.Number.{numberOf, encode}
+use Rattle.numbers.proofs.Decode.{side}
 use Rattle.numbers.proofs.Theorems.{number-encode, encode-length}
 use Rattle.log.specs.declared.Record.{Record}
 use Rattle.log.specs.declared.Record.the-variants.{Get, Poll, Release, Cancel, Tick}
-use Rattle.log.specs.declared.Read.the-variants.{Taken, End}
+use Rattle.log.specs.declared.Kind.{Kind}
+use Rattle.log.specs.declared.Kind.the-variants as kind
+use Rattle.log.specs.declared.Read.the-variants.{Taken, End, Bad}
 use Rattle.log.specs.Fields.{Fields, Fields·read, Fields·refused, before, readFields, encodeFields, Small}
-use Rattle.log.specs.Record.{limitField, fieldsOf, kindOf, fieldCount, made, afterKind, recordOf, encodeRecord, Expressible}
+use Rattle.log.specs.Record.{limitBound, limitField, fieldsOf, kindOf, fieldCount, recordFrom, made, afterKind, recordOf, encodeRecord, Expressible}
 use Rattle.log.proofs.Fields.{Listed, read-encode, read-listed, listed-more}
-use Rattle.log.proofs.Forms.{Made, made-inv, not-taken, take-three, count-few, limit-field, get-limited}
+use Rattle.log.proofs.Forms.{Made, made-inv, not-taken, take-three, count-few, limit-field, get-limited, get-refused}
 use Rattle.log.proofs.Reading.{record-some}
 
 -- a kind's number and as many fields as the kind has are read back
@@ -92,3 +96,29 @@ module _ {s : List ℕ} {r : Record} {n : ℕ} (t : Source s r n) where
   source-listed =
       rw (source-numbers, ← t .makes .place)
       (listed-more (fieldCount (kindOf (t .number))) s (t .number) (t .first) (t .fs) (t .size) (t .kind) (t .fields))
+
+-- the clean end stands only where nothing is left
+bad-end : {A : Type 0} → Bad ≡ End → A
+bad-end e = let z : _≡_ {A = ℕ} 0 1 = cc in absurd (omega arith)
+
+form-end : {A : Type 0} (k : Kind) (a b c n : ℕ) → recordFrom k a b c n ≡ End → A
+form-end kind.Get a b c n e =
+    ⊎-elim (λ h. bad-end (get-refused a b c n h ∙ e)) (λ h. no-end (sym (get-limited a b c n h ∙ e))) (side limitBound c)
+form-end kind.Poll a b c n e = no-end (sym e)
+form-end kind.Release a b c n e = no-end (sym e)
+form-end kind.Cancel a b c n e = no-end (sym e)
+form-end kind.Tick a b c n e = no-end (sym e)
+form-end kind.Unknown a b c n e = bad-end e
+
+fields-end : {A : Type 0} (k : Kind) (x : Fields) → made k x ≡ End → A
+fields-end k Fields·refused e = bad-end e
+fields-end k (Fields·read fs n) e = form-end k (getD fs 0 0) (getD fs 1 0) (getD fs 2 0) n e
+
+kind-end : {A : Type 0} (x : Number) (s : List ℕ) → afterKind x s ≡ End → A
+kind-end Refused s e = bad-end e
+kind-end (Value k n) s e = fields-end (kindOf k) (before [] n (readFields (fieldCount (kindOf k)) (drop n s))) e
+
+pub end-none : (s : List ℕ) → recordOf s ≡ End → s ≡ []
+unfolding recordOf
+end-none [] e = refl
+end-none (b ∷ s) e = kind-end (numberOf (b ∷ s)) (b ∷ s) e

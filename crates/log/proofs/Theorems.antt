@@ -7,14 +7,18 @@ use lib.ListN.{length, take}
 use Rattle.numbers.specs.Number.{Bytes}
 use Rattle.numbers.proofs.Theorems.{number-one}
 use Rattle.log.specs.declared.Record.{Record}
-use Rattle.log.specs.declared.Read.the-variants.{Taken}
+use Rattle.log.specs.declared.Read.the-variants.{Taken, End}
 use Rattle.log.specs.Record.{kindOf, recordOf, encodeRecord, Expressible}
 use Rattle.log.proofs.Forms.{count-few}
-use Rattle.log.proofs.Records.{record-read, source, source-listed}
+use Rattle.log.proofs.Records.{record-read, source, source-listed, end-none}
 
 -- what is written is read back, whatever follows
 pub record-encode : (r : Record) (rest : List ℕ) → Expressible r → recordOf (encodeRecord r ++ rest) ≡ Taken r (length (encodeRecord r))
 record-encode = record-read
+
+-- the clean end is told only where nothing is left
+pub record-end : (s : List ℕ) → recordOf s ≡ End → s ≡ []
+record-end = end-none
 
 module _ (s : List ℕ) (r : Record) (n : ℕ) (e : recordOf s ≡ Taken r n) where
   -- what is read is what would be written

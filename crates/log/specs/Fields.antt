@@ -1,7 +1,7 @@
 -- Several numbers one after another, read and written.
 use Prim.Native.Nat.{ℕ, zero, suc, _+_, _<_}
 use mathlib.Core.List.{List, [], _∷_, _++_}
-use lib.ListN.{drop}
+use lib.ListN.{length, drop}
 use Rattle.numbers.specs.declared.Number.{Number}
 use Rattle.numbers.specs.declared.Number.the-variants.{Value, Refused}
 use Rattle.numbers.specs.Number.{numberOf, encode, numberBound}
@@ -30,6 +30,11 @@ readFields (suc k) s = first (numberOf s) λ n. readFields k (drop n s)
 unfoldable pub encodeFields : List ℕ → List ℕ
 encodeFields [] = []
 encodeFields (v ∷ vs) = encode v ++ encodeFields vs
+
+-- how many bytes they need
+unfoldable pub fieldsLength : List ℕ → ℕ
+fieldsLength [] = 0
+fieldsLength (v ∷ vs) = length (encode v) + fieldsLength vs
 
 -- numbers that can be read
 abbrev pub Small : List ℕ → Type 0

@@ -1,2 +1,5 @@
 pub mod Fields
 pub mod Record
+pub mod Log
+pub mod Writer
+pub mod Steps

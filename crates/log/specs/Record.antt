@@ -1,10 +1,10 @@
 -- The records of a log: the number and the fields of each kind, and how a record is read and written.
-use Prim.Native.Nat.{ℕ, zero, suc, _<_}
+use Prim.Native.Nat.{ℕ, zero, suc}
 use lib.IntN.{ℤ, pos, negsuc}
 use mathlib.Core.Path.{_≡_}
 use mathlib.Core.List.{List, [], _∷_}
-use mathlib.Core.Bool.{cond}
-use lib.Dec.{leb}
+use mathlib.Core.Bool.{Bool, true, cond}
+use lib.Dec.{leb, ltb, eqb}
 use lib.ListN.{drop, getD}
 use Rattle.numbers.specs.declared.Number.{Number}
 use Rattle.numbers.specs.declared.Number.the-variants.{Value, Refused}
@@ -83,12 +83,12 @@ abbrev pub encodeRecord : Record → List ℕ
 encodeRecord r = encodeFields (fieldsOf r)
 
 -- the limits of a get: -1, and from 0 on those below 2^31
-abbrev pub Limit : ℤ → Type 0
-Limit (pos n) = n < limitBound
-Limit (negsuc n) = n ≡ 0
+abbrev pub isLimit : ℤ → Bool
+isLimit (pos n) = ltb n limitBound
+isLimit (negsuc n) = eqb n 0
 
 abbrev pub Limited : Record → Type 0
-Limited (Get task size limit) = Limit limit
+Limited (Get task size limit) = isLimit limit ≡ true
 Limited (Poll task size) = Unit {0}
 Limited (Release offset) = Unit {0}
 Limited (Cancel task) = Unit {0}

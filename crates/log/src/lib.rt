@@ -5,6 +5,8 @@ ghost use Prim.Native.Nat.{_≤_};
 ghost use Rattle.numbers.specs.Number.{numberOf};
 ghost use Rattle.log.specs.Record.{kindOf, fieldCount, limitOf, limitBound, recordFrom, recordOf};
 
+pub mod writer;
+
 pub enum Record {
     // task, size, limit: -1 is forever, 0 is a poll, above 0 are ticks
     Get(u32, u32, i32),

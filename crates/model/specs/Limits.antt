@@ -49,6 +49,10 @@ e-id = minus 18
 abbrev pub e-ctx : ℤ
 e-ctx = minus 25
 
+-- the log writer's: the buffer is too short
+abbrev pub e-nomem : ℤ
+e-nomem = minus 33
+
 abbrev pub e-obj : ℤ
 e-obj = minus 41
 

@@ -18,6 +18,8 @@ pub const E_ID: i32 = -18;
 
 pub const E_CTX: i32 = -25;
 
+pub const E_NOMEM: i32 = -33;
+
 pub const E_OBJ: i32 = -41;
 
 pub const E_RLWAI: i32 = -49;

@@ -22,10 +22,11 @@ use Rattle.numbers.proofs.Theorems.{number-encode}
 use Rattle.log.specs.declared.Record.{Record}
 use Rattle.log.specs.declared.Read.the-variants.{Taken, End, Bad}
 use Rattle.log.specs.Record.{recordOf, encodeRecord}
+use Rattle.log.specs.Log.{encodeRecords, logOf, AllExpressible}
 use Rattle.log.proofs.Theorems.{record-encode, record-length}
 use Rattle.transcript.specs.Text.{digit, digits, decimal, signed, valueFrom, valueOf, allDigits}
 use Rattle.transcript.specs.Lines.{poolLine, answerLine, wokenLine, endLine, badLine, refusedLine, tooLongLine, longestAnswer, longestLine, isLine}
-use Rattle.transcript.specs.Transcript.{longestLog, callOf, answerText, recordsText, freshPool, poolText, transcriptOf, encodeRecords, logOf, callsOf, AllExpressible, turnsText}
+use Rattle.transcript.specs.Transcript.{longestLog, callOf, answerText, recordsText, freshPool, poolText, transcriptOf, callsOf, turnsText}
 use Rattle.transcript.proofs.Decimal.{decimal-ind, decimal-digits, length-word, length-half, value-append}
 use Rattle.transcript.proofs.Sign.{signed-length}
 use Rattle.transcript.proofs.Lines.{line-decimal, line-signed}

@@ -1,22 +1,14 @@
 -- The steps in which the functions write a line: byte by byte, and digit by digit. Assumes nothing.
 use Prim.Native.Nat.{ℕ, _+_, _/_, _%_, _<_, _≤_}
-use mathlib.Core.Path.{_≡_, refl, ap, _∙_}
-use mathlib.Core.List.{List, [], _∷_}
+use mathlib.Core.List.{List}
 use native.Mathlib.Nat.{add-assoc}
 use native.Mathlib.Numerals.{add-one}
 use lib.ListN.{length, set, take, getD}
-use lib.Seq.{take-suc, take-all, length-sets}
+use lib.Seq.{take-suc, take-all}
 use Rattle.numbers.specs.Wrote.{Wrote}
-use Rattle.numbers.proofs.Wrote.{wrote-append}
+use Rattle.numbers.proofs.Wrote.{wrote-byte, wrote-append}
 use Rattle.transcript.specs.Text.{digit, decimal}
 use Rattle.transcript.proofs.Decimal.{decimal-one, decimal-more}
-
--- a write keeps the buffer's length
-pub wrote-length : {l m s : List ℕ} {at next : ℕ} → Wrote l at s m next → length m ≡ length l
-wrote-length {l} {m} {s} {at} w = ap length (w .stored) ∙ length-sets l at s
-
-pub wrote-byte : (l : List ℕ) (at b : ℕ) → Wrote l at (b ∷ []) (set l at b) (at + 1)
-wrote-byte l at b = record { place = refl; stored = refl }
 
 -- a text, byte by byte
 pub wrote-next : {l m : List ℕ} {at i : ℕ} (s : List ℕ) → Wrote l at (take i s) m (at + i) → i < length s

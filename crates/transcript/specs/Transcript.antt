@@ -11,11 +11,11 @@ use Rattle.model.specs.Runs.{Turn}
 use Rattle.model.specs.Pool.{Stored, perform, create}
 use Rattle.numbers.specs.declared.Number.{Number}
 use Rattle.numbers.specs.declared.Number.the-variants.{Value, Refused}
-use Rattle.numbers.specs.Number.{numberOf, encode}
+use Rattle.numbers.specs.Number.{numberOf}
 use Rattle.log.specs.declared.Record.{Record}
 use Rattle.log.specs.declared.Record.the-variants.{Get, Poll, Release, Cancel, Tick}
 use Rattle.log.specs.declared.Read.the-variants.{Taken, End, Bad}
-use Rattle.log.specs.Record.{recordOf, encodeRecord, Expressible}
+use Rattle.log.specs.Record.{recordOf}
 use Rattle.transcript.specs.Lines.{poolLine, answerLine, wokenLine, endLine, badLine, refusedLine, tooLongLine}
 
 -- the most bytes of a log
@@ -69,24 +69,12 @@ poolText (Value n size) log =
 unfoldable pub transcriptOf : List ℕ → List ℕ
 transcriptOf log = elim (leb (length log) longestLog) [ true ↦ poolText (numberOf log) log | false ↦ tooLongLine ]
 
--- ---- logs that were written
+-- ---- runs
 
--- records in bytes, and a log of a pool's length and records
-unfoldable pub encodeRecords : List Record → List ℕ
-encodeRecords [] = []
-encodeRecords (r ∷ rs) = encodeRecord r ++ encodeRecords rs
-
-abbrev pub logOf : ℕ → List Record → List ℕ
-logOf n rs = encode n ++ encodeRecords rs
-
+-- the calls of records
 unfoldable pub callsOf : List Record → List Call
 callsOf [] = []
 callsOf (r ∷ rs) = callOf r ∷ callsOf rs
-
--- what the log can express
-unfoldable pub AllExpressible : List Record → Type 0
-AllExpressible [] = Unit {0}
-AllExpressible (r ∷ rs) = Expressible r × AllExpressible rs
 
 -- the text of a run
 unfoldable pub turnsText : List Turn → List ℕ

@@ -1,15 +1,15 @@
 -- `write_number` meets its contract: the loop keeps `Writing`, what is left to write. Assumes nothing.
-use mathlib.Core.Path.{refl, _∙_}
+use mathlib.Core.Path.{refl}
 use native.Mathlib.Omega.{arith}
-use lib.ListN.{length-set}
 use borrow.Author.Needs.{needs}
-use Rattle.numbers.proofs.Wrote.{wrote-none}
-use Rattle.numbers.proofs.Writing.{Writing, length-last, length-more, writing-more, writing-last}
+use Rattle.numbers.specs.Number.{encode}
+use Rattle.numbers.proofs.Wrote.{Writing, fitted-all, wrote-none, writing-start, writing-end}
+use Rattle.numbers.proofs.Writing.{length-last, length-more, writing-more, writing-last}
 use Rattle.numbers.proofs.write_number.Statement.{statement}
 use Rattle.numbers.proofs.write_number.Tie as tie
 
 abbrev Inv-loop : tie.InvT-loop
-Inv-loop buf₀ at v n₀ i₀ buf n i = Writing buf₀ at v buf n i
+Inv-loop buf₀ at v n₀ i₀ buf n i = Writing buf₀ at (encode v) buf i (encode n)
 
 abbrev μ-loop : tie.MeasureT-loop
 μ-loop buf₀ at v n₀ i₀ buf n i = n
@@ -21,7 +21,7 @@ returns-2 : tie.Need-returns-2 Inv-loop μ-loop
 returns-2 c = wrote-none _ _ _ (omega arith)
 
 loop-holds : tie.Need-loop-holds Inv-loop μ-loop
-loop-holds c = record { place = refl; stored = refl; same = refl; fits = omega arith }
+loop-holds c = writing-start _ _ _ (omega arith)
 
 slice-write-buf : tie.Need-slice-write-buf Inv-loop μ-loop
 slice-write-buf c = omega (arith, length-more (c .before .loop .n) (c .loop-test .taken))
@@ -33,10 +33,12 @@ slice-write-buf-2 : tie.Need-slice-write-buf-2 Inv-loop μ-loop
 slice-write-buf-2 c = omega (arith, length-last (c .before .loop .n) (c .loop-test .left))
 
 same-length : tie.Need-same-length Inv-loop μ-loop
-same-length c = length-set (c .before .loop .buf) (c .before .loop .i) (c .before .loop .n) ∙ c .before .loop .inv .same
+same-length c = writing-last (c .before .loop .inv) (c .loop-test .left) .same
 
 returns-3 : tie.Need-returns-3 Inv-loop μ-loop
-returns-3 c = writing-last (c .before .loop .inv) (c .loop-test .left)
+returns-3 c =
+    let done = writing-last (c .before .loop .inv) (c .loop-test .left) in
+    rw (fitted-all _ _ _ (done .fits)) (writing-end done refl)
 
 pub write-number-spec : {M : Type 1} → statement M
 write-number-spec =

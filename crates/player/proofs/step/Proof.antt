@@ -10,7 +10,7 @@ use lib.ListN.{getD}
 use borrow.Author.Needs.{needs}
 use Rattle.model.specs.Limits.{most-tasks}
 use Rattle.model.specs.Places.{noWoken}
-use Rattle.transcript.proofs.Writing.{wrote-length}
+use Rattle.numbers.proofs.Wrote.{wrote-length}
 use Rattle.transcript.proofs.Theorems.{length-answer, length-woken}
 use Rattle.player.proofs.Stepping.{Writing, writing-starts, writing-more, stepped}
 use Rattle.player.proofs.step.Statement.{statement}

@@ -8,7 +8,7 @@ use Rattle.log.specs.declared.Read.the-variants.{Taken}
 use Rattle.log.specs.Record.{recordOf}
 use Rattle.log.proofs.Reading.{suffix}
 use Rattle.log.proofs.Theorems.{record-length}
-use Rattle.transcript.proofs.Writing.{wrote-length}
+use Rattle.numbers.proofs.Wrote.{wrote-length}
 use Rattle.replay.proofs.Playing.{Playing, playing-starts, playing-taken, playing-last, playing-full}
 use Rattle.replay.proofs.play.Statement.{statement}
 use Rattle.replay.proofs.play.Tie as tie

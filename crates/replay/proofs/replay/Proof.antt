@@ -3,7 +3,7 @@ use Prim.Native.Nat.{_≤_}
 use mathlib.Core.Path.{sym, _∙_}
 use native.Mathlib.Omega.{arith}
 use borrow.Author.Needs.{needs}
-use Rattle.transcript.proofs.Writing.{wrote-length}
+use Rattle.numbers.proofs.Wrote.{wrote-length}
 use Rattle.transcript.proofs.Theorems.{length-bad}
 use Rattle.replay.proofs.Beginning.{lent}
 use Rattle.replay.proofs.replay.Statement.{statement}

@@ -4,7 +4,7 @@ use native.Mathlib.Omega.{arith}
 use lib.ListN.{length}
 use borrow.Author.Needs.{needs}
 use Rattle.numbers.proofs.Theorems.{number-within}
-use Rattle.transcript.proofs.Writing.{wrote-length}
+use Rattle.numbers.proofs.Wrote.{wrote-length}
 use Rattle.transcript.proofs.Theorems.{length-pool}
 use Rattle.replay.proofs.Beginning.{begun}
 use Rattle.replay.proofs.run.Statement.{statement}

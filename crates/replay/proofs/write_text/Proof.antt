@@ -4,7 +4,7 @@ use mathlib.Core.Path.{_≡_, refl, _∙_}
 use native.Mathlib.Omega.{arith}
 use lib.ListN.{length}
 use borrow.Author.Needs.{needs}
-use Rattle.transcript.proofs.Writing.{wrote-length}
+use Rattle.numbers.proofs.Wrote.{wrote-length}
 use Rattle.replay.specs.Stages.{Ready}
 use Rattle.replay.proofs.write_text.Statement.{statement}
 use Rattle.replay.proofs.write_text.Tie as tie

@@ -3,9 +3,8 @@ use mathlib.Core.Path.{ap, _∙_}
 use native.Mathlib.Omega.{arith}
 use lib.ListN.{length, length-set}
 use borrow.Author.Needs.{needs}
-use Rattle.numbers.proofs.Wrote.{wrote-append}
+use Rattle.numbers.proofs.Wrote.{wrote-byte, wrote-append}
 use Rattle.transcript.proofs.Sign.{Negative, Positive, signed-length, negative, positive}
-use Rattle.transcript.proofs.Writing.{wrote-byte}
 use Rattle.transcript.proofs.put_signed.Statement.{statement}
 use Rattle.transcript.proofs.put_signed.Tie as tie
 

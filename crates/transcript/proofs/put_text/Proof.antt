@@ -5,7 +5,8 @@ use native.Mathlib.Omega.{arith}
 use lib.ListN.{length, take}
 use borrow.Author.Needs.{needs}
 use Rattle.numbers.specs.Wrote.{Wrote}
-use Rattle.transcript.proofs.Writing.{wrote-length, wrote-next, wrote-all}
+use Rattle.numbers.proofs.Wrote.{wrote-length}
+use Rattle.transcript.proofs.Writing.{wrote-next, wrote-all}
 use Rattle.transcript.proofs.put_text.Statement.{statement}
 use Rattle.transcript.proofs.put_text.Tie as tie
 

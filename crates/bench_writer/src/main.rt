@@ -1,0 +1,133 @@
+// Carries out a request to write a log, from standard input, and writes the line `code length` and then the bytes of the buffer.
+// A request is words of four bytes, lowest byte first: the buffer's length, the pool's length, the lengths of the columns kinds, firsts, seconds and
+// limits, then the columns; a limit is in two's complement. Byte i of the buffer is i % 251 before the call. What is no request writes nothing.
+use layout::header;
+use log::writer;
+ghost use Prim.Native.Nat.{_*_, _≤_};
+ghost use lib.ListN.{length};
+
+// The most places of a column, and bytes of a buffer.
+const MOST_ROWS: usize = 4100;
+
+const LONGEST_BUFFER: usize = 65600;
+
+// The words before the columns.
+const HEAD: usize = 6;
+
+fn read_words(s: &[u8], words: &mut [u32])
+    requires { ⌜ 4 * length (now words) ≤ length (now s) ⌝ }
+{
+    let mut i: usize = 0;
+    while i < words.len() {
+        words[i] = header::read_u32(s, 4 * i) as u32;
+        i += 1;
+    }
+}
+
+// A number by its bits.
+fn signed(v: u32) -> i32 {
+    if v < 2147483648 {
+        return v as i32;
+    }
+    -1 - (4294967295 - v) as i32
+}
+
+fn read_limits(words: &[u32], limits: &mut [i32])
+    requires { ⌜ length (now words) ≤ length (now limits) ⌝ }
+{
+    let mut i: usize = 0;
+    while i < words.len() {
+        limits[i] = signed(words[i]);
+        i += 1;
+    }
+}
+
+fn fill(buf: &mut [u8]) {
+    let mut i: usize = 0;
+    while i < buf.len() {
+        buf[i] = (i % 251) as u8;
+        i += 1;
+    }
+}
+
+fn line(code: i32, length: usize) {
+    let mut text = [0u8; 64];
+    let size = transcript::answer_line(&mut text, 0, code, length);
+    io::write_all(1, &text[..size]);
+}
+
+fn write(buf: &mut [u8], n: u32, kinds: &[u32], firsts: &[u32], seconds: &[u32], limits: &[i32]) {
+    fill(buf);
+    let written = writer::write_log(buf, n, kinds, firsts, seconds, limits);
+    line(written.code, written.length);
+    io::write_all(1, buf);
+}
+
+fn wide(v: u32) -> usize {
+    v as usize
+}
+
+// The columns stand behind the head, one after another, and fill the rest.
+fn respond(words: &[u32], limits: &mut [i32], buffer: &mut [u8])
+    requires { ⌜ (4100 ≤ length (now limits)) × (65600 ≤ length (now buffer)) ⌝ }
+{
+    if words.len() < HEAD {
+        return;
+    }
+    let size = wide(words[0]);
+    if LONGEST_BUFFER < size {
+        return;
+    }
+    let a = wide(words[2]);
+    let b = wide(words[3]);
+    let c = wide(words[4]);
+    let d = wide(words[5]);
+    if MOST_ROWS < a {
+        return;
+    }
+    if MOST_ROWS < b {
+        return;
+    }
+    if MOST_ROWS < c {
+        return;
+    }
+    if MOST_ROWS < d {
+        return;
+    }
+    let firsts = HEAD + a;
+    let seconds = firsts + b;
+    let last = seconds + c;
+    if words.len() != last + d {
+        return;
+    }
+    read_limits(&words[last..], limits);
+    write(
+        &mut buffer[0..size],
+        words[1],
+        &words[HEAD..firsts],
+        &words[firsts..seconds],
+        &words[seconds..last],
+        &limits[0..d],
+    );
+}
+
+fn carry_out(request: &[u8], words: &mut [u32]) {
+    if request.len() % 4 != 0 {
+        return;
+    }
+    let mut limits = [0i32; 4100];
+    let mut buffer = [0u8; 65600];
+    let count = request.len() / 4;
+    if words.len() < count {
+        return;
+    }
+    read_words(request, &mut words[0..count]);
+    respond(&words[0..count], &mut limits, &mut buffer);
+}
+
+fn main() {
+    let mut input = [0u8; 65625];
+    let mut words = [0u32; 16406];
+    let n = io::read_full(0, &mut input);
+    carry_out(&input[..n], &mut words);
+}

@@ -1,0 +1,31 @@
+-- `is_given` meets its contract, a case for each kind. Assumes nothing.
+use mathlib.Core.Path.{sym, _∙_}
+use borrow.Author.Needs.{needs}
+use Rattle.log.proofs.Forms.{limit-test}
+use Rattle.log.proofs.Rows.{get-given}
+use Rattle.log.proofs.writer.is_given.Statement.{statement}
+use Rattle.log.proofs.writer.is_given.Tie as tie
+
+returns : tie.Need-returns
+returns c =
+    let row = c .before .before .before .before .before .args .row in
+    let get = sym (c .before .before .before .before .kind-of .ensures) ∙ c .before .before .enum-told .given .1 in
+    limit-test (row .limit) (record { sfits = c .struct-told .given .1 .1 .1 .0 .1 }) ∙ get-given row ∙ rw get
+
+pub is-given-spec : {M : Type 1} → statement M
+is-given-spec =
+    tie.close
+    (tie.spec
+    (λ c κs. search needs)
+    (λ c. search needs)
+    (λ c. search needs)
+    (λ c. search needs)
+    (λ c. search needs)
+    (λ c. search needs)
+    (λ c. search needs)
+    returns
+    (λ c. search needs)
+    (λ c. search needs)
+    (λ c. search needs)
+    (λ c. search needs)
+    (λ c. search needs))

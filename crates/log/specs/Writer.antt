@@ -1,0 +1,108 @@
+-- The log writer: the records that its columns give, and what it answers and leaves in the buffer.
+use Prim.Native.Nat.{ℕ, zero, suc, _<_}
+use mathlib.Core.Bool.{Bool, cond, _&&_}
+use mathlib.Core.List.{List, [], _++_, map}
+use mathlib.Core.Option.{Option, none, some}
+use lib.Dec.{leb, eqb}
+use lib.IntN.{ℤ, pos}
+use lib.ListN.{length, drop, getD}
+use Rattle.model.specs.Limits.{e-ok, e-par, e-nomem}
+use Rattle.numbers.specs.Number.{numberBound}
+use Rattle.log.specs.declared.Record.{Record}
+use Rattle.log.specs.declared.Record.the-variants.{Get, Poll, Release, Cancel, Tick}
+use Rattle.log.specs.declared.Kind.{Kind}
+use Rattle.log.specs.declared.Kind.the-variants as kind
+pub use Rattle.log.specs.declared.writer.Row.{Row}
+pub use Rattle.log.specs.declared.writer.Written.{Written}
+use Rattle.log.specs.Record.{isLimit, kindOf}
+use Rattle.log.specs.Log.{logOf, logLength, inFront}
+
+-- the most records that are written
+abbrev pub mostRecords : ℕ
+mostRecords = 4096
+
+-- ---- the records that are given
+
+-- the record of a row, by its kind; none where the log can't express it. Fields that the kind does not have are not looked at
+abbrev pub givenAs : Kind → Row → Option Record
+givenAs kind.Get w = cond (isLimit (w .limit)) (some (Get (w .first) (w .second) (w .limit))) none
+givenAs kind.Poll w = some (Poll (w .first) (w .second))
+givenAs kind.Release w = some (Release (w .first))
+givenAs kind.Cancel w = some (Cancel (w .first))
+givenAs kind.Tick w = some Tick
+givenAs kind.Unknown w = none
+
+abbrev pub given : Row → Option Record
+given w = givenAs (kindOf (w .kind)) w
+
+-- records are given in columns, a row at each place
+pub record Columns : Type 0 where
+  pub kinds : List ℕ
+  pub firsts : List ℕ
+  pub seconds : List ℕ
+  pub limits : List ℤ
+
+abbrev pub columns : (kinds firsts seconds : List ℕ) → List ℤ → Columns
+columns kinds firsts seconds limits = record { kinds = kinds; firsts = firsts; seconds = seconds; limits = limits }
+
+abbrev pub rowAt : Columns → ℕ → Row
+rowAt c i = record { kind = getD (c .kinds) i 0; first = getD (c .firsts) i 0; second = getD (c .seconds) i 0; limit = getD (c .limits) i (pos 0) }
+
+-- the records of the k rows from the place i on; none where one of them has none
+unfoldable pub givenFrom : Columns → (i k : ℕ) → Option (List Record)
+givenFrom c i zero = some []
+givenFrom c i (suc k) = inFront (given (rowAt c i)) (givenFrom c (suc i) k)
+
+-- the columns are equally long
+abbrev pub level : Columns → Bool
+level c = eqb (length (c .firsts)) (length (c .kinds)) && eqb (length (c .seconds)) (length (c .kinds)) && eqb (length (c .limits)) (length (c .kinds))
+
+-- the records to be written; none where the columns are not level, there are too many records, or the log can't express one
+unfoldable pub writable : Columns → Option (List Record)
+writable c = cond (leb (length (c .kinds)) mostRecords && level c) (givenFrom c 0 (length (c .kinds))) none
+
+-- ---- what is answered, and the buffer
+
+pub record Outcome : Type 0 where
+  pub answer : Written
+  pub buffer : List ℕ
+
+abbrev pub outcome : Written → List ℕ → Outcome
+outcome a buf = record { answer = a; buffer = buf }
+
+-- a refusal has length 0
+abbrev pub refusal : ℤ → Written
+refusal code = record { code = code; length = 0 }
+
+-- the log at the start of the buffer, every byte behind it kept
+abbrev pub stored : List ℕ → List ℕ → Outcome
+stored log buf = outcome (record { code = e-ok; length = length log }) (log ++ drop (length log) buf)
+
+-- the log is written where the buffer holds it; a refusal keeps every byte
+abbrev pub writeRecords : ℕ → Option (List Record) → List ℕ → Outcome
+writeRecords n none buf = outcome (refusal e-par) buf
+writeRecords n (some rs) buf = cond (leb (logLength n rs) (length buf)) (stored (logOf n rs) buf) (outcome (refusal e-nomem) buf)
+
+abbrev pub writeLog : ℕ → Columns → List ℕ → Outcome
+writeLog n c buf = writeRecords n (writable c) buf
+
+-- ---- columns of records
+
+-- a row of a record, zeros in the fields that its kind does not have
+abbrev pub row : (kind first second : ℕ) → ℤ → Row
+row kind first second limit = record { kind = kind; first = first; second = second; limit = limit }
+
+abbrev pub rowOf : Record → Row
+rowOf (Get task size limit) = row 1 task size limit
+rowOf (Poll task size) = row 2 task size (pos 0)
+rowOf (Release offset) = row 3 offset 0 (pos 0)
+rowOf (Cancel task) = row 4 task 0 (pos 0)
+rowOf Tick = row 5 0 0 (pos 0)
+
+abbrev pub columnsOf : List Record → Columns
+columnsOf rs = columns (map (λ r. rowOf r .kind) rs) (map (λ r. rowOf r .first) rs) (map (λ r. rowOf r .second) rs) (map (λ r. rowOf r .limit) rs)
+
+-- what the types of the code say of the columns: first and second fields are below 2^32
+pub record Typed (c : Columns) : Type 0 where
+  pub first : (i : ℕ) → getD (c .firsts) i 0 < numberBound
+  pub second : (i : ℕ) → getD (c .seconds) i 0 < numberBound
