@@ -42,6 +42,11 @@ unfolding fieldsLength
 fields-most [] h = omega arith
 fields-most (v ∷ vs) h = omega (arith, encode-length v (h .0), fields-most vs (h .1))
 
+pub small-take : (k : ℕ) (vs : List ℕ) → Small vs → Small (take k vs)
+small-take zero vs h = tt
+small-take (suc k) [] h = tt
+small-take (suc k) (v ∷ vs) h = (h .0, small-take k vs (h .1))
+
 -- what the first k numbers of s are
 pub record Listed (k : ℕ) (s vs : List ℕ) (n : ℕ) : Type 0 where
   pub count : length vs ≡ k

@@ -7,7 +7,6 @@ use mathlib.Core.Option.{some}
 use native.Mathlib.Omega.{arith}
 use native.Mathlib.Nat.{sub-zero}
 use native.Mathlib.Numerals.{add-one}
-use lib.Dec.{lit<}
 use lib.ListN.{length, take, length-take}
 use Rattle.model.proofs.Tests.{by}
 use Rattle.numbers.specs.Number.{numberBound}
@@ -17,10 +16,12 @@ use Rattle.log.specs.declared.Kind.{Kind}
 use Rattle.log.specs.declared.Kind.the-variants as kind
 use Rattle.log.specs.declared.Read.the-variants.{Taken}
 use Rattle.log.specs.declared.writer.Row.{Row}
+use Rattle.log.specs.Fields.{Small}
 use Rattle.log.specs.Record.{isLimit, limitField, fieldsOf, kindOf, fieldCount, recordFrom, Limited, Expressible}
 use Rattle.log.specs.Log.{encodeRecords, AllExpressible}
 use Rattle.log.specs.Writer.{givenAs, given, Columns, rowAt, givenFrom, rowOf, columnsOf, Typed}
 use Rattle.log.specs.Steps.{isSome, numbersOf, Holds, rowsBytes}
+use Rattle.log.proofs.Fields.{small-take}
 use Rattle.log.proofs.Forms.{Made, made-inv, count-few, limit-field, get-limited}
 use Rattle.log.proofs.Logs.{no-some, front}
 
@@ -54,23 +55,11 @@ pub given-numbers : (w : Row) (r : Record) → given w ≡ some r → fieldsOf r
 given-numbers w r e = given-made w r e .numbers
 
 -- and the log can express it
-expressible : (r x : Record) → r ≡ x → Expressible r → Expressible x
-expressible r x e h = rw (← e) h
-
-pub given-expressible : (k : Kind) (w : Row) (r : Record) → givenAs k w ≡ some r → w .first < numberBound → w .second < numberBound → Expressible r
-unfolding fieldsOf
-given-expressible kind.Get w r e f s = by (isLimit (w .limit)) limited (λ h. no-some (rw h at e))
-  where
-    limited : isLimit (w .limit) ≡ true → Expressible r
-    limited h =
-        let g = rw h at e in
-        let l : limitField (w .limit) < numberBound = omega (arith, limit-field (w .limit) h .1) in
-        expressible (Get (w .first) (w .second) (w .limit)) r (cc) (record { small = (lit< tt, (f, (s, (l, tt)))); limited = h })
-given-expressible kind.Poll w r e f s = expressible (Poll (w .first) (w .second)) r (cc) (record { small = (lit< tt, (f, (s, tt))); limited = tt })
-given-expressible kind.Release w r e f s = expressible (Release (w .first)) r (cc) (record { small = (lit< tt, (f, tt)); limited = tt })
-given-expressible kind.Cancel w r e f s = expressible (Cancel (w .first)) r (cc) (record { small = (lit< tt, (f, tt)); limited = tt })
-given-expressible kind.Tick w r e f s = expressible Tick r (cc) (record { small = (lit< tt, tt); limited = tt })
-given-expressible kind.Unknown w r e f s = no-some e
+pub given-expressible : (w : Row) (r : Record) → given w ≡ some r → Small (w .first ∷ w .second ∷ limitField (w .limit) ∷ []) → Expressible r
+given-expressible w r e h =
+    let m = given-made w r e in
+    let number : w .kind < numberBound = omega (arith, m .known) in
+    record { small = rw (m .numbers) (number, small-take (fieldCount (kindOf (w .kind))) _ h); limited = m .limited }
 
 -- the numbers of a row, in an array
 pub row-numbers : (w : Row) (k : Kind) (count field : ℕ) → k ≡ kindOf (w .kind) → count ≡ fieldCount k → field ≡ limitField (w .limit)
@@ -110,7 +99,7 @@ module _ (c : Columns) where
   given-all t i (suc k) rs e =
       let f = front (given (rowAt c i)) (givenFrom c (suc i) k) rs e in
       rw (← f .whole)
-      (given-expressible (kindOf (rowAt c i .kind)) (rowAt c i) (f .head) (f .first) (t .first i) (t .second i), given-all t (suc i) k (f .tail) (f .rest))
+      (given-expressible (rowAt c i) (f .head) (f .first) (t .first i, (t .second i, (omega (arith, t .limit i), tt))), given-all t (suc i) k (f .tail) (f .rest))
 
 -- ---- the columns of records
 

@@ -1,5 +1,5 @@
 -- The log writer: the records that its columns give, and what it answers and leaves in the buffer.
-use Prim.Native.Nat.{ℕ, zero, suc, _<_}
+use Prim.Native.Nat.{ℕ, zero, suc, _<_, _≤_}
 use mathlib.Core.Bool.{Bool, cond, _&&_}
 use mathlib.Core.List.{List, [], _++_, map}
 use mathlib.Core.Option.{Option, none, some}
@@ -14,7 +14,7 @@ use Rattle.log.specs.declared.Kind.{Kind}
 use Rattle.log.specs.declared.Kind.the-variants as kind
 pub use Rattle.log.specs.declared.writer.Row.{Row}
 pub use Rattle.log.specs.declared.writer.Written.{Written}
-use Rattle.log.specs.Record.{isLimit, kindOf}
+use Rattle.log.specs.Record.{limitBound, limitField, isLimit, kindOf}
 use Rattle.log.specs.Log.{logOf, logLength, inFront}
 
 -- the most records that are written
@@ -102,7 +102,8 @@ rowOf Tick = row 5 0 0 (pos 0)
 abbrev pub columnsOf : List Record → Columns
 columnsOf rs = columns (map (λ r. rowOf r .kind) rs) (map (λ r. rowOf r .first) rs) (map (λ r. rowOf r .second) rs) (map (λ r. rowOf r .limit) rs)
 
--- what the types of the code say of the columns: first and second fields are below 2^32
+-- what the types of the code say of the columns: first and second fields are below 2^32, limits below 2^31
 pub record Typed (c : Columns) : Type 0 where
   pub first : (i : ℕ) → getD (c .firsts) i 0 < numberBound
   pub second : (i : ℕ) → getD (c .seconds) i 0 < numberBound
+  pub limit : (i : ℕ) → limitField (getD (c .limits) i (pos 0)) ≤ limitBound
