@@ -11,8 +11,12 @@ const MOST_ROWS: usize = 4100;
 
 const LONGEST_BUFFER: usize = 65600;
 
-// The words before the columns.
+// The words before the columns, and the most words and bytes of a request.
 const HEAD: usize = 6;
+
+const MOST_WORDS: usize = HEAD + 4 * MOST_ROWS;
+
+const LONGEST_REQUEST: usize = 4 * MOST_WORDS;
 
 fn read_words(s: &[u8], words: &mut [u32])
     requires { ⌜ 4 * length (now words) ≤ length (now s) ⌝ }
@@ -115,8 +119,8 @@ fn carry_out(request: &[u8], words: &mut [u32]) {
     if request.len() % 4 != 0 {
         return;
     }
-    let mut limits = [0i32; 4100];
-    let mut buffer = [0u8; 65600];
+    let mut limits = [0i32; MOST_ROWS];
+    let mut buffer = [0u8; LONGEST_BUFFER];
     let count = request.len() / 4;
     if words.len() < count {
         return;
@@ -126,8 +130,8 @@ fn carry_out(request: &[u8], words: &mut [u32]) {
 }
 
 fn main() {
-    let mut input = [0u8; 65625];
-    let mut words = [0u32; 16406];
+    let mut input = [0u8; LONGEST_REQUEST + 1];
+    let mut words = [0u32; MOST_WORDS];
     let n = io::read_full(0, &mut input);
     carry_out(&input[..n], &mut words);
 }
