@@ -37,11 +37,6 @@ unfolding encodeFields fieldsLength
 length-fields [] = refl
 length-fields (v ∷ vs) = length-append (encode v) (encodeFields vs) ∙ rw (length-fields vs)
 
-pub fields-most : (vs : List ℕ) → Small vs → fieldsLength vs ≤ 5 * length vs
-unfolding fieldsLength
-fields-most [] h = omega arith
-fields-most (v ∷ vs) h = omega (arith, encode-length v (h .0), fields-most vs (h .1))
-
 pub small-take : (k : ℕ) (vs : List ℕ) → Small vs → Small (take k vs)
 small-take zero vs h = tt
 small-take (suc k) [] h = tt

@@ -1,6 +1,6 @@
 -- Laws of the rows that a writer is given, and of the columns that hold them. Assumes nothing.
 use Prim.Native.Nat.{ℕ, zero, suc, _+_, _-_, _≤_, _<_}
-use mathlib.Core.Path.{_≡_, refl, sym, ap, _∙_}
+use mathlib.Core.Path.{_≡_, refl, sym, _∙_}
 use mathlib.Core.Bool.{true}
 use mathlib.Core.List.{List, [], _∷_}
 use mathlib.Core.Option.{some}
@@ -39,7 +39,7 @@ same-get w r n e = by (isLimit (w .limit)) limited (λ h. no-some (rw h at e))
         let f = rw h at e in
         sym (get-limited (w .first) (w .second) (limitField (w .limit)) n (l .1)) ∙ rw (l .0) (cc)
 
-pub same-record : (k : Kind) (w : Row) (r : Record) (n : ℕ) → givenAs k w ≡ some r → recordFrom k (w .first) (w .second) (limitField (w .limit)) n ≡ Taken r n
+same-record : (k : Kind) (w : Row) (r : Record) (n : ℕ) → givenAs k w ≡ some r → recordFrom k (w .first) (w .second) (limitField (w .limit)) n ≡ Taken r n
 same-record kind.Get w r n e = same-get w r n e
 same-record kind.Poll w r n e = cc
 same-record kind.Release w r n e = cc
@@ -48,14 +48,14 @@ same-record kind.Tick w r n e = cc
 same-record kind.Unknown w r n e = no-some e
 
 -- so it has the row's numbers
-pub given-made : (w : Row) (r : Record) → given w ≡ some r → Made (w .kind) (w .first) (w .second) (limitField (w .limit)) 0 r 0
+given-made : (w : Row) (r : Record) → given w ≡ some r → Made (w .kind) (w .first) (w .second) (limitField (w .limit)) 0 r 0
 given-made w r e = made-inv (w .first) (w .second) (limitField (w .limit)) 0 r 0 (w .kind) (same-record (kindOf (w .kind)) w r 0 e)
 
 pub given-numbers : (w : Row) (r : Record) → given w ≡ some r → fieldsOf r ≡ numbersOf w
 given-numbers w r e = given-made w r e .numbers
 
 -- and the log can express it
-pub given-expressible : (w : Row) (r : Record) → given w ≡ some r → Small (w .first ∷ w .second ∷ limitField (w .limit) ∷ []) → Expressible r
+given-expressible : (w : Row) (r : Record) → given w ≡ some r → Small (w .first ∷ w .second ∷ limitField (w .limit) ∷ []) → Expressible r
 given-expressible w r e h =
     let m = given-made w r e in
     let number : w .kind < numberBound = omega (arith, m .known) in
@@ -76,15 +76,7 @@ holds-part {values} {count} h = rw (sub-zero count) (h .same)
 -- ---- rows one after another
 
 module _ (c : Columns) where
-  -- there is a record for each row
-  pub given-count : (i k : ℕ) (rs : List Record) → givenFrom c i k ≡ some rs → length rs ≡ k
-  unfolding givenFrom
-  given-count i zero rs e = let q : [] ≡ rs = cc in rw (← q)
-  given-count i (suc k) rs e =
-      let f = front (given (rowAt c i)) (givenFrom c (suc i) k) rs e in
-      rw (← f .whole) (ap suc (given-count (suc i) k (f .tail) (f .rest)))
-
-  -- and the rows have the bytes of the records
+  -- rows have the bytes of their records
   pub given-bytes : (i k : ℕ) (rs : List Record) → givenFrom c i k ≡ some rs → rowsBytes c i k ≡ encodeRecords rs
   unfolding givenFrom rowsBytes encodeRecords
   given-bytes i zero rs e = let q : [] ≡ rs = cc in rw (← q)
@@ -103,7 +95,7 @@ module _ (c : Columns) where
 
 -- ---- the columns of records
 
-pub given-row : (r : Record) → Limited r → given (rowOf r) ≡ some r
+given-row : (r : Record) → Limited r → given (rowOf r) ≡ some r
 given-row (Get task size limit) h = rw h
 given-row (Poll task size) h = refl
 given-row (Release offset) h = refl
