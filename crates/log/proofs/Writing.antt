@@ -9,7 +9,7 @@ use native.Mathlib.Nat.{add-assoc, add-zero, zero-add, sub-zero}
 use native.Mathlib.Numerals.{add-one}
 use lib.Dec.{leb, eqb}
 use lib.ListN.{length, drop, length-append}
-use borrow.Author.Tests.{le-leb, lt-leb, eq-eqb, eqb-true, leb-true}
+use borrow.Author.Tests.{le-leb, lt-leb, eq-eqb, eqb-true}
 use Rattle.model.specs.Limits.{e-ok, e-par, e-nomem}
 use Rattle.model.proofs.Tests.{by, and-l, and-r, and-f-r}
 use Rattle.numbers.specs.Number.{encode, numberBound}
@@ -62,7 +62,6 @@ module _ (c : Columns) where
   -- what is to be written
   pub record Writable (rs : List Record) : Type 0 where
     pub even : Level c
-    pub few : length (c .kinds) ≤ mostRecords
     pub rows : givenFrom c 0 (length (c .kinds)) ≡ some rs
 
   pub writable-open : (rs : List Record) → writable c ≡ some rs → Writable rs
@@ -72,7 +71,6 @@ module _ (c : Columns) where
       tested : leb (length (c .kinds)) mostRecords && level c ≡ true → Writable rs
       tested h = record {
         even = level-open (and-r (leb (length (c .kinds)) mostRecords) (level c) h);
-        few = leb-true (length (c .kinds)) mostRecords (and-l (leb (length (c .kinds)) mostRecords) (level c) h);
         rows = rw h at e;
       }
 
