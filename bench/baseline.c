@@ -17,10 +17,10 @@
 #define MIN_BLOCK 12
 #define MAX_POOL 65536
 #define MAX_LOG 65536
-#define MAX_LEFT INT32_MAX
-#define FOREVER UINT32_MAX // ticks left of a wait without limit
-#define NOWHERE SIZE_MAX   // no place of a header
-#define NO_NEED SIZE_MAX   // no free run is as large
+#define MAX_LEFT (UINT32_C(1) << 31) // ticks left, one more than the greatest limit
+#define FOREVER UINT32_MAX           // ticks left of a wait without limit
+#define NOWHERE SIZE_MAX             // no place of a header
+#define NO_NEED SIZE_MAX             // no free run is as large
 
 enum code {
     E_OK = 0,
@@ -341,7 +341,7 @@ static enum code judge(const struct queue *queue, size_t len, uint32_t task, uin
     return E_OK;
 }
 
-// A limit of -1 waits forever, 0 does not wait.
+// A limit of -1 waits forever, 0 does not wait, n > 0 ends in tick n + 1 after the call.
 static void get(struct pool pool, struct queue *queue, uint32_t task, uint32_t size, int32_t limit,
                 struct answer *answer)
 {
@@ -359,7 +359,7 @@ static void get(struct pool pool, struct queue *queue, uint32_t task, uint32_t s
     } else if (limit == 0) {
         answer_with(answer, E_TMOUT, 0);
     } else {
-        const uint32_t left = limit == -1 ? FOREVER : (uint32_t)limit;
+        const uint32_t left = limit == -1 ? FOREVER : (uint32_t)limit + 1;
         queue->places[find_task(queue, 0)] = (struct entry){task, size, left};
         answer_with(answer, WAITING, 0);
     }

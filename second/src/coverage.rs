@@ -9,6 +9,7 @@ use crate::pool::{Answer, Pool, MAX_LEN};
 use crate::queue::Queue;
 use crate::replay::{Replay, StartFault, Step, MAX_LOG};
 use crate::runs::HEADER;
+use crate::waits::{Wait, Waits};
 
 /// Counts by name, and the greatest number seen by name.
 #[derive(Default)]
@@ -52,12 +53,14 @@ impl Coverage {
             MAX_LEN => self.add("pool of the greatest length"),
             _ => {}
         }
+        let mut waits = Waits::default();
         loop {
             let before = replay.pool().queue().clone();
             match replay.step() {
                 Step::Done(record, answer) => {
                     self.add_call(record, &answer);
                     self.add_details(&before, replay.pool(), record, &answer);
+                    self.add_ended(&waits.follow(record, &answer));
                 }
                 Step::End => return self.add("end clean"),
                 Step::Bad(_, fault) => {
@@ -96,6 +99,9 @@ impl Coverage {
             .filter(|woken| woken.code == E_TMOUT)
             .count();
         self.raise("served by one call", served);
+        if record == Record::Tick {
+            self.raise("served by one tick", served);
+        }
         self.raise("expired in one tick", expired);
         if served > 0 {
             self.add(format!("{call} serves"));
@@ -119,6 +125,33 @@ impl Coverage {
                 self.add_refused_release(pool, offset, answer);
             }
             _ => {}
+        }
+    }
+
+    /// Counts the waits that one call ended, each with its code.
+    fn add_ended(&mut self, ended: &[(Wait, i32)]) {
+        let (expired, others): (Vec<_>, Vec<_>) = ended
+            .iter()
+            .copied()
+            .partition(|(_, code)| *code == E_TMOUT);
+        for (wait, code) in others {
+            if wait.has_one_tick_left() {
+                self.add(format!("woken {code}, one tick left"));
+            }
+        }
+        self.add_expired(&expired);
+    }
+
+    fn add_expired(&mut self, expired: &[(Wait, i32)]) {
+        for (wait, _) in expired {
+            self.raise("ticks of an expired wait", wait.ticks as usize);
+            if wait.others > 0 {
+                self.add("expiry with other calls between its ticks");
+            }
+        }
+        let limits = expired.iter().map(|(wait, _)| wait.limit);
+        if limits.clone().min() != limits.max() {
+            self.add("tick with expiries of different limits");
         }
     }
 

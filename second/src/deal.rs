@@ -32,6 +32,7 @@ fn deal_small(rng: Rng, index: u64) -> Vec<u8> {
         8 => shapes::cancels(rng),
         10 => shapes::joins(rng),
         _ if index % 24 == 11 => shapes::rests(rng),
+        _ if index % 48 == 23 => shapes::same_end(rng),
         _ => shapes::long_wait(rng),
     };
     dealer.log

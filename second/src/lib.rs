@@ -25,5 +25,6 @@ pub mod rng;
 pub mod runs;
 pub mod shapes;
 pub mod timing;
+pub mod waits;
 pub mod workload;
 pub mod writer;

@@ -123,7 +123,7 @@ impl Pool {
     }
 
     /// Asks for a block. A limit of -1 waits without end, 0 polls, and n ends
-    /// the wait in the n-th tick.
+    /// the wait in tick n + 1 after the call.
     pub fn get(&mut self, task: u32, size: u32, limit: i32) -> Answer {
         if let Err(code) = self.test_request(task, size, limit) {
             return Answer::code(code);
@@ -234,7 +234,8 @@ fn need(size: u32) -> u32 {
     size.next_multiple_of(4) + HEADER
 }
 
-/// Ticks an entry starts with; a negative limit has none.
+/// Ticks an entry starts with, one more than the limit; a negative limit has
+/// none.
 fn ticks(limit: i32) -> Option<u32> {
-    u32::try_from(limit).ok()
+    u32::try_from(limit).ok().map(|limit| limit + 1)
 }

@@ -8,7 +8,7 @@ pub struct Waiter {
     pub task: u32,
     /// Size as asked.
     pub size: u32,
-    /// Ticks left, or `None` for a wait without limit.
+    /// Ticks left, 1 to 2^31, or `None` for a wait without limit.
     pub left: Option<u32>,
 }
 

@@ -1,7 +1,7 @@
 //! Small valid logs, each made to reach certain states.
 
 use crate::dealer::Dealer;
-use crate::pool::{FOREVER, MAX_TASK};
+use crate::pool::{FOREVER, MAX_TASK, POLLING};
 use crate::rng::Rng;
 
 /// A pool length from `low` to `high`, both multiples of 4.
@@ -162,14 +162,18 @@ pub fn many_served(mut rng: Rng) -> Dealer {
     match way {
         0 => dealer.release(held),
         1 => dealer.cancel(tasks[0]),
-        _ => dealer.tick(),
+        _ => {
+            dealer.tick();
+            dealer.tick()
+        }
     };
     let count = dealer.rng.below(30);
     dealer.put_many(count);
     dealer
 }
 
-/// Several waits that end in the same tick, with waiters served afterwards.
+/// Several waits that end in the same tick, with waiters served afterwards. The
+/// last tick comes after the end of the longest wait.
 pub fn many_timeouts(mut rng: Rng) -> Dealer {
     let len = length(&mut rng, 64, 1_024);
     let mut dealer = Dealer::new(rng, len);
@@ -194,7 +198,7 @@ pub fn many_timeouts(mut rng: Rng) -> Dealer {
         };
         dealer.get(task, size, limit);
     }
-    for _ in 0..=longest {
+    for _ in 0..longest + 2 {
         dealer.tick();
         let count = dealer.rng.below(3);
         dealer.put_many(count);
@@ -202,17 +206,61 @@ pub fn many_timeouts(mut rng: Rng) -> Dealer {
     dealer
 }
 
-/// A wait of several dozen ticks that ends neither early nor late.
+/// A wait of several dozen ticks that ends neither early nor late: the last
+/// tick comes after its end.
 pub fn long_wait(rng: Rng) -> Dealer {
     let mut dealer = Dealer::new(rng, 64);
-    let ticks = dealer.rng.between(2, 150);
+    let limit = dealer.rng.between(2, 150);
+    let refused = dealer.rng.pick(&[0, 50]);
     dealer.get(1, 56, FOREVER);
-    dealer.get(2, 4, ticks as i32);
+    dealer.get(2, 4, limit as i32);
     dealer.get(3, 4, i32::MAX);
     dealer.get(4, 4, FOREVER);
-    for _ in 0..=ticks {
+    for _ in 0..limit + 2 {
         dealer.tick();
+        if dealer.rng.chance(refused) {
+            put_refused(&mut dealer);
+        }
     }
+    dealer.put_many(10);
+    dealer
+}
+
+/// A call that is refused while one block fills the whole pool.
+fn put_refused(dealer: &mut Dealer) {
+    let (task, size) = (dealer.any_task(), dealer.size());
+    let waiting = dealer.waiting_task().unwrap_or(0);
+    let idle = dealer.idle_task().unwrap_or(0);
+    match dealer.rng.below(5) {
+        0 => dealer.poll(task, size),
+        1 => dealer.get(task, size, POLLING),
+        2 => dealer.get(waiting, size, 1),
+        3 => dealer.cancel(idle),
+        _ => dealer.release(12),
+    };
+}
+
+/// Waits of every limit from the longest down to 1, each begun one tick after
+/// the one before, so that all end in the same tick. Another tick follows it.
+pub fn same_end(mut rng: Rng) -> Dealer {
+    let longest = if rng.chance(40) {
+        MAX_TASK
+    } else {
+        rng.between(2, MAX_TASK)
+    };
+    let mut dealer = Dealer::new(rng, 64);
+    let refused = dealer.rng.pick(&[0, 50]);
+    dealer.get(1, 56, FOREVER);
+    for limit in (1..=longest).rev() {
+        let size = dealer.size();
+        dealer.get(limit, size, limit as i32);
+        dealer.tick();
+        if dealer.rng.chance(refused) {
+            put_refused(&mut dealer);
+        }
+    }
+    dealer.tick();
+    dealer.tick();
     dealer.put_many(10);
     dealer
 }

@@ -13,8 +13,8 @@ const SEED: u64 = 1;
 /// Size of the smallest block, its header not included.
 const SMALLEST: u32 = 4;
 const HEADER: u32 = 8;
-/// Ticks that a wait of `waiters` lasts at most.
-const LONGEST_WAIT: u32 = 1_000;
+/// The greatest limit of a get of `waiters`.
+const GREATEST_LIMIT: u32 = 1_000;
 
 /// The log of a workload, the same at each call; `None` for another name.
 pub fn workload(name: &str) -> Option<Vec<u8>> {
@@ -87,7 +87,7 @@ pub fn waiters(rng: Rng) -> Dealer {
 fn put_wait(dealer: &mut Dealer, task: u32) {
     let whole = dealer.pool.max_size();
     let size = dealer.rng.between(whole / 4, whole);
-    let limit = dealer.rng.between(1, LONGEST_WAIT);
+    let limit = dealer.rng.between(1, GREATEST_LIMIT);
     dealer.get(task, size, limit as i32);
 }
 

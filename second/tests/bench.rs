@@ -2,7 +2,7 @@
 
 mod common;
 
-use common::{answer, blocks, refused, waiting, woke};
+use common::{answer, blocks, refused, times_left, waiting, woke};
 use second::pool::{Inquiry, Pool, FOREVER};
 
 fn create(len: u32) -> Pool {
@@ -121,6 +121,8 @@ fn example_l() {
     let mut pool = after_c();
     assert_eq!(pool.get(3, 12, 1), answer(1, 0));
     assert_eq!(pool.get(4, 4, FOREVER), answer(1, 0));
+    assert_eq!(pool.tick(), woke(&[]));
+    assert_eq!(waiting(&pool), [3, 4]);
     assert_eq!(pool.tick(), woke(&[(3, -50, 0), (4, 0, 56)]));
     assert_eq!(waiting(&pool), []);
 }
@@ -148,20 +150,11 @@ fn limits() {
     assert_eq!(pool.get(3, 12, -1), answer(1, 0));
     assert_eq!(pool.get(4, 12, 1), answer(1, 0));
     assert_eq!(pool.get(5, 12, i32::MAX), answer(1, 0));
-    let left: Vec<_> = pool.queue().iter().map(|waiter| waiter.left).collect();
-    assert_eq!(left, [None, Some(1), Some(2_147_483_647)]);
+    assert_eq!(times_left(&pool), [None, Some(2), Some(2_147_483_648)]);
+    assert_eq!(pool.tick(), woke(&[]));
+    assert_eq!(times_left(&pool), [None, Some(1), Some(2_147_483_647)]);
     assert_eq!(pool.tick(), woke(&[(4, -50, 0)]));
-    let left: Vec<_> = pool.queue().iter().map(|waiter| waiter.left).collect();
-    assert_eq!(left, [None, Some(2_147_483_646)]);
-}
-
-#[test]
-fn limit_ends_in_its_tick() {
-    let mut pool = after_c();
-    pool.get(3, 12, 3);
-    assert_eq!(pool.tick(), woke(&[]));
-    assert_eq!(pool.tick(), woke(&[]));
-    assert_eq!(pool.tick(), woke(&[(3, -50, 0)]));
+    assert_eq!(times_left(&pool), [None, Some(2_147_483_646)]);
 }
 
 #[test]
@@ -171,6 +164,7 @@ fn expiries_come_before_service() {
     pool.get(4, 4, FOREVER);
     pool.get(5, 50, 2);
     pool.get(6, 4, 3);
+    assert_eq!(pool.tick(), woke(&[]));
     assert_eq!(pool.tick(), woke(&[]));
     assert_eq!(pool.tick(), woke(&[(3, -50, 0), (5, -50, 0), (4, 0, 56)]));
     assert_eq!(pool.tick(), woke(&[(6, -50, 0)]));

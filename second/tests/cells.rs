@@ -14,6 +14,8 @@ const REST: u32 = 1_000;
 /// Each cell is free, the owner at a block's first cell, or the rest of one.
 struct Cells {
     cells: Vec<u32>,
+    /// Task, size, and the ticks to pass before the one that ends the wait, or
+    /// -1.
     waiters: Vec<(u32, u32, i64)>,
 }
 
@@ -147,9 +149,6 @@ impl Cells {
     }
 
     fn tick(&mut self) -> Answer {
-        for waiter in &mut self.waiters {
-            waiter.2 -= i64::from(waiter.2 > 0);
-        }
         let ended = self.waiters.iter().filter(|waiter| waiter.2 == 0);
         let woken = ended
             .map(|waiter| Woken {
@@ -159,6 +158,9 @@ impl Cells {
             })
             .collect();
         self.waiters.retain(|waiter| waiter.2 != 0);
+        for waiter in &mut self.waiters {
+            waiter.2 -= i64::from(waiter.2 > 0);
+        }
         self.serve(woken)
     }
 

@@ -39,6 +39,10 @@ const NAMES: &[&str] = &[
     "cancel serves",
     "tick serves",
     "tick with several expiries",
+    "tick with expiries of different limits",
+    "expiry with other calls between its ticks",
+    "woken 0, one tick left",
+    "woken -49, one tick left",
     "release reason 3, place above 0",
     "release reason 4, place above 0",
     "release reason 4, header of a live block",
@@ -88,7 +92,9 @@ fn assert_reaches_all(seed: u64) {
         ("free runs", 300),
         ("waiters", 32),
         ("served by one call", 30),
-        ("expired in one tick", 5),
+        ("served by one tick", 15),
+        ("expired in one tick", 20),
+        ("ticks of an expired wait", 50),
     ] {
         assert!(coverage.maximum(name) >= least, "seed {seed}: {name}");
     }

@@ -244,6 +244,17 @@ fn greatest_limit_is_no_fault() {
     );
 }
 
+/// Example l: the field of limit 1 is 2, and the second tick ends the wait.
+#[test]
+fn text_of_example_l() {
+    let gets = "40 01 01 0A 00 01 02 14 00 01 03 0C 02 01 04 04 00";
+    let answers = "pool 64\n0 8\n0 28\n1 0\n1 0\n0 0\n";
+    let expected = format!("{answers}end 5 records\n");
+    assert_eq!(text(&format!("{gets} 05")), expected);
+    let expected = format!("{answers}0 0\nw 3 -50 0\nw 4 0 56\nend 6 records\n");
+    assert_eq!(text(&format!("{gets} 05 05")), expected);
+}
+
 #[test]
 fn length_of_a_log() {
     let mut log = vec![5; MAX_LOG];

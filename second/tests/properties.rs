@@ -35,7 +35,7 @@ fn assert_queue_sound(pool: &Pool) {
         assert!((1..=pool.max_size()).contains(&waiter.size));
         assert!(waiter
             .left
-            .is_none_or(|left| (1..=2_147_483_647).contains(&left)));
+            .is_none_or(|left| (1..=2_147_483_648).contains(&left)));
     }
     if let Some(head) = pool.queue().head() {
         let need = head.size.div_ceil(4) * 4 + 8;

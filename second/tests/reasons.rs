@@ -228,6 +228,7 @@ fn other_answers_have_no_reason() {
         (pool.cancel(33), answer(-18, 0)),
         (pool.cancel(1), answer(-41, 0)),
         (pool.tick(), answer(0, 0)),
+        (pool.tick(), answer(0, 0)),
         (pool.tick(), woke(&[(3, -50, 0)])),
         (pool.get(5, 40, FOREVER), answer(1, 0)),
         (pool.cancel(5), woke(&[(5, -49, 0)])),

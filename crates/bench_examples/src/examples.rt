@@ -93,13 +93,16 @@ fn k(buffer: &mut [u8], most: u32, more: u32) {
     show::state(buffer, granted);
 }
 
+// One tick wakes nobody, the second ends the wait.
 fn l(buffer: &mut [u8; 64]) {
     show::title(b"l, after c");
     let c = after_c(buffer);
     let d = calls::get(buffer, c, 3, 12, 1);
     let e = calls::get(buffer, d, 4, 4, -1);
-    let l = calls::tick(buffer, e);
-    show::state(buffer, l);
+    let one = calls::tick(buffer, e);
+    show::state(buffer, one);
+    let two = calls::tick(buffer, one);
+    show::state(buffer, two);
 }
 
 pub fn run() {

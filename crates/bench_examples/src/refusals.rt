@@ -86,15 +86,14 @@ fn spoiled_pool(buffer: &mut [u8; 64]) {
     all_calls(buffer, e);
 }
 
-// The head of the queue fits a free run.
-fn spoiled_queue(buffer: &mut [u8; 64]) {
-    show::title(b"a head that fits, after c");
+// Task 3 alone in the queue, with an entry that no call would leave there.
+fn spoiled_queue(buffer: &mut [u8; 64], size: u32, left: u32) {
     let c = examples::after_c(buffer);
     let mut entries = c.entries;
     entries[0] = Entry {
         task: 3,
-        size: 8,
-        left: 1,
+        size: size,
+        left: left,
     };
     all_calls(buffer, Queue { entries: entries });
 }
@@ -104,5 +103,8 @@ pub fn run() {
     requests(&mut [170; 64]);
     others(&mut [170; 64]);
     spoiled_pool(&mut [170; 64]);
-    spoiled_queue(&mut [170; 64]);
+    show::title(b"a head that fits, after c");
+    spoiled_queue(&mut [170; 64], 8, 1);
+    show::title(b"a time left above the greatest, after c");
+    spoiled_queue(&mut [170; 64], 12, 2147483649);
 }

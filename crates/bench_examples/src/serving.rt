@@ -51,6 +51,8 @@ fn ticks(buffer: &mut [u8; 64]) {
     show::state(buffer, two);
     let three = calls::tick(buffer, two);
     show::state(buffer, three);
+    let four = calls::tick(buffer, three);
+    show::state(buffer, four);
 }
 
 fn limits(buffer: &mut [u8; 64]) {
@@ -62,8 +64,10 @@ fn limits(buffer: &mut [u8; 64]) {
     let least = calls::get(buffer, forever, 4, 12, 1);
     let most = calls::get(buffer, least, 5, 12, 2147483647);
     show::state(buffer, most);
-    let after = calls::tick(buffer, most);
-    show::state(buffer, after);
+    let one = calls::tick(buffer, most);
+    show::state(buffer, one);
+    let two = calls::tick(buffer, one);
+    show::state(buffer, two);
 }
 
 fn polls(buffer: &mut [u8; 64]) {

@@ -1,5 +1,5 @@
 -- Every call leaves a sound state sound; a refused call leaves it as it was. Over any store. Assumes nothing.
-use Prim.Native.Nat.{ℕ, suc, _≤_}
+use Prim.Native.Nat.{ℕ, suc, _+_, _≤_}
 use mathlib.Core.Path.{_≡_, refl, ap, _∙_}
 use mathlib.Core.Bool.{Bool, true, false, not, _&&_}
 use mathlib.Core.List.{List, [], _∷_}
@@ -8,11 +8,11 @@ use native.Mathlib.Omega.{arith}
 use lib.ListN.{length, length-append}
 use lib.Dec.{leb}
 use lib.IntN.{ℤ, pos, negsuc}
-use borrow.Author.Tests.{le-leb, eqb-false}
-use Rattle.model.specs.Limits.{e-par, e-id, e-ctx, e-obj, e-tmout}
+use borrow.Author.Tests.{leb-true, le-leb}
+use Rattle.model.specs.Limits.{longest-limit, longest-left, e-par, e-id, e-ctx, e-obj, e-tmout}
 use Rattle.model.specs.Waiting.{Entry, waits, remove, insert, blocked, okLeft, expired, remaining}
 use Rattle.model.specs.Rules.{Rules, Laws, okTask, queued}
-use Rattle.model.specs.Calls.{placeOf, Request, Call, get, release, cancel, tick, inquire, Refusal, plain, refuse, deny, okLimit, isPoll, leftOf, entryOf, leave, Store, State, state, fitting, given, serve, headStuck, sound, goes, tests, verdict, act, step}
+use Rattle.model.specs.Calls.{placeOf, Request, Call, get, release, cancel, tick, inquire, Refusal, plain, refuse, deny, okLimit, leftOf, entryOf, leave, Store, State, state, fitting, given, serve, headStuck, sound, goes, tests, verdict, act, step}
 use Rattle.model.proofs.Tests.{by, and-l, and-r, and-i, not-t, not-f}
 use Rattle.model.proofs.Waiting.{Asked, asked, entry-asked, open-queued, insert-queued, remove-queued, remaining-queued, queued-length, remove-count, expired-count}
 use Rattle.model.proofs.Store.{StoreLaws}
@@ -61,11 +61,6 @@ module _ (K : Rules) {P : Type 0} (E : Store P) where
     pub fair : K .allowed (entryOf r) ≡ true
     pub limit : okLimit (r .limit) ≡ true
     pub away : waits (r .task) (s .queue) ≡ false
-    pub patient : goes K E (entryOf r) s ≡ false → isPoll (r .limit) ≡ false
-
-  patient : (a b : Bool) → a && not b ≡ false → b ≡ false → a ≡ false
-  patient true b e h = rw h at e
-  patient false b e h = refl
 
   pub passed : (r : Request) (s : State P) → tests K E (get r) s ≡ none → Passed r s
   unfolding tests
@@ -75,14 +70,12 @@ module _ (K : Rules) {P : Type 0} (E : Store P) where
       let p = past (not (okTask K (r .task))) (plain e-id) _ e in
       let q = past (not (a && b)) (plain e-par) _ (p .1) in
       let w = past (waits (r .task) (s .queue)) (plain e-ctx) _ (q .1) in
-      let g = past (isPoll (r .limit) && not (goes K E (entryOf r) s)) (plain e-tmout) _ (w .1) in
       let ab = not-f (a && b) (q .0) in
       record {
         task = not-f (okTask K (r .task)) (p .0);
         fair = and-l a b ab;
         limit = and-r a b ab;
         away = w .0;
-        patient = patient (isPoll (r .limit)) (goes K E (entryOf r) s) (g .0);
       }
 
   pub passed-asked : (r : Request) (s : State P) → Passed r s → Asked K (entryOf r)
@@ -140,9 +133,9 @@ module _ (K : Rules) {P : Type 0} (E : Store P) where
     stuck-insert e p (x ∷ q) g h =
         by (leb (K .rank x) (K .rank e)) (λ l. rw l h) (λ l. rw l (let f : fitting K E e p ≡ false = rw l at g in rw f))
 
-    left-ok : (l : ℤ) → okLimit l ≡ true → isPoll l ≡ false → okLeft (leftOf l) ≡ true
-    left-ok (pos n) a b = let nz = eqb-false n 0 b in and-i (leb 1 n) _ (le-leb 1 n (omega arith)) (rw a)
-    left-ok (negsuc n) a b = refl
+    left-ok : (l : ℤ) → okLimit l ≡ true → okLeft (leftOf l) ≡ true
+    left-ok (pos n) a = and-i (leb 1 (n + 1)) _ (le-leb 1 (n + 1) (omega arith)) (rw (le-leb (n + 1) longest-left (omega (arith, leb-true n longest-limit a))))
+    left-ok (negsuc n) a = refl
 
     act-get-sound : (r : Request) (s : State P) → Sound s → Passed r s → sound K E (act K E (get r) s .state) ≡ true
     unfolding act
@@ -155,7 +148,7 @@ module _ (K : Rules) {P : Type 0} (E : Store P) where
         (record {
           valid = k .valid;
           pool = k .pool;
-          order = insert-queued K e (s .queue) (and-i (okTask K (r .task)) _ (o .task) (and-i (K .allowed e) _ (o .fair) (left-ok (r .limit) (o .limit) (o .patient g)))) (o .away) (k .order);
+          order = insert-queued K e (s .queue) (and-i (okTask K (r .task)) _ (o .task) (and-i (K .allowed e) _ (o .fair) (left-ok (r .limit) (o .limit)))) (o .away) (k .order);
           stuck = stuck-insert e (s .pool) (s .queue) g (k .stuck);
         })))
 

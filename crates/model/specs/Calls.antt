@@ -112,9 +112,9 @@ abbrev pub isPoll : ℤ → Bool
 isPoll (pos n) = eqb n 0
 isPoll (negsuc n) = false
 
--- the time left of a wait, from its limit
+-- the time left of a wait, from its limit: a limit of n ends in tick n + 1 after the call
 abbrev pub leftOf : ℤ → ℕ
-leftOf (pos n) = n
+leftOf (pos n) = n + 1
 leftOf (negsuc n) = forever
 
 abbrev pub entryOf : Request → Entry

@@ -1,5 +1,5 @@
 -- The limits of document 01, and the codes that a call answers.
-use Prim.Native.Nat.{ℕ, _-_}
+use Prim.Native.Nat.{ℕ, _+_, _-_}
 use lib.IntN.{ℤ, pos, negsuc}
 
 -- ---- limits
@@ -16,9 +16,9 @@ longest-pool = 65536
 abbrev pub longest-limit : ℕ
 longest-limit = 2147483647
 
--- the greatest time left of a limited wait, in ticks
+-- the greatest time left of a limited wait, in ticks: a limit ends in the tick after as many have passed
 abbrev pub longest-left : ℕ
-longest-left = longest-limit
+longest-left = longest-limit + 1
 
 -- the time left of a wait without a limit
 abbrev pub forever : ℕ

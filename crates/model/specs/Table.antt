@@ -1,4 +1,4 @@
--- Document 01's examples marked *, and the reasons of a refused release, as one table: in each row a pool is created and called, and all that is expected is written down.
+-- Document 01's examples marked *, the reasons of a refused release, and the greatest time limit, as one table: in each row a pool is created and called, and all that is expected is written down.
 use Prim.Native.Nat.{ℕ, _+_, _-_}
 use mathlib.Core.List.{List, [], _∷_, _++_}
 use lib.ListN.{replicate}
@@ -183,16 +183,31 @@ row-k n most =
       bytes = head n 1 ++ body (n - 8);
     }
 
+-- l, as document 02 has it: the first tick wakes nobody, the second ends the wait
 abbrev pub row-l : Row
 row-l =
     record {
       long = 64;
       code = e-ok;
-      lines = to-c ++ (line (wantsFor 3 12 1) (told waiting 0 []) blocks-c (waitsFor 3 12 1 ∷ [])
-          ∷ line (wants 4 4) (told waiting 0 []) blocks-c (waitsFor 3 12 1 ∷ waitsFor 4 4 forever ∷ [])
+      lines = to-c ++ (line (wantsFor 3 12 1) (told waiting 0 []) blocks-c (waitsFor 3 12 2 ∷ [])
+          ∷ line (wants 4 4) (told waiting 0 []) blocks-c (waitsFor 3 12 2 ∷ waitsFor 4 4 forever ∷ [])
+          ∷ line tick (told e-ok 0 []) blocks-c (waitsFor 3 12 1 ∷ waitsFor 4 4 forever ∷ [])
           ∷ line tick (told e-ok 0 (woke 3 e-tmout 0 ∷ woke 4 e-ok 56 ∷ [])) (block 20 1 ∷ block 28 2 ∷ block 16 4 ∷ []) []
           ∷ []);
       bytes = head 20 1 ++ body 12 ++ head 28 2 ++ body 20 ++ head 16 4 ++ body 8;
+    }
+
+-- one more than the greatest limit is refused; the greatest has one tick more than itself left
+abbrev pub row-longest : Row
+row-longest =
+    record {
+      long = 64;
+      code = e-ok;
+      lines = to-c ++ (line (wantsFor 3 12 2147483648) (told e-par 0 []) blocks-c []
+          ∷ line (wantsFor 3 12 2147483647) (told waiting 0 []) blocks-c (waitsFor 3 12 2147483648 ∷ [])
+          ∷ line tick (told e-ok 0 []) blocks-c (waitsFor 3 12 2147483647 ∷ [])
+          ∷ []);
+      bytes = bytes-c;
     }
 
 -- beside document 01's: a rest of 12 bytes is split off, a rest of 8 is not
@@ -286,4 +301,4 @@ row-reasons-least =
     }
 
 abbrev pub table : List Row
-table = row-a ∷ row-b ∷ row-c ∷ row-e ∷ row-f ∷ row-g ∷ row-h ∷ row-i ∷ row-j ∷ row-k 64 56 ∷ row-k 12 4 ∷ row-l ∷ row-split ∷ row-whole ∷ row-join ∷ row-stuck ∷ row-refused ∷ row-reasons ∷ row-reasons-least ∷ []
+table = row-a ∷ row-b ∷ row-c ∷ row-e ∷ row-f ∷ row-g ∷ row-h ∷ row-i ∷ row-j ∷ row-k 64 56 ∷ row-k 12 4 ∷ row-l ∷ row-longest ∷ row-split ∷ row-whole ∷ row-join ∷ row-stuck ∷ row-refused ∷ row-reasons ∷ row-reasons-least ∷ []

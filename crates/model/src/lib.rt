@@ -48,10 +48,10 @@ pub struct Entry {
     pub left: u32,
 }
 
-// The ticks left of a wait without a limit, and the most of a limited one.
+// The ticks left of a wait without a limit, and the most of a limited one: one more than the greatest limit.
 pub const FOREVER: u32 = 4294967295;
 
-pub const LONGEST_LEFT: u32 = 2147483647;
+pub const LONGEST_LEFT: u32 = 2147483648;
 
 // The waiting queue: its entries in order, zeros in the places past the last.
 pub struct Queue {

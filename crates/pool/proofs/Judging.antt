@@ -1,5 +1,5 @@
 -- Requests: the tests, and what follows where none refuses. Assumes nothing.
-use Prim.Native.Nat.{ℕ, zero, suc, _+_}
+use Prim.Native.Nat.{ℕ, _+_}
 use mathlib.Core.Path.{_≡_, refl, sym, ap, _∙_}
 use mathlib.Core.Bool.{Bool, true, false, not, cond, _&&_}
 use mathlib.Core.List.{List, []}
@@ -9,8 +9,7 @@ use mir.Syntax.{w32}
 use mir.Val.{ofZ, toZ}
 use lib.ListN.{length, getD}
 use lib.Dec.{eqb}
-use lib.IntN.{ℤ, pos, negsuc}
-use borrow.Author.Tests.{ne-eqb}
+use lib.IntN.{ℤ}
 use Rattle.model.specs.declared.BlockOffset.{BlockOffset}
 use Rattle.model.specs.declared.Entry.{Entry}
 use Rattle.model.specs.declared.Queue.{Queue}
@@ -23,7 +22,7 @@ use Rattle.model.specs.Waiting.{waits}
 use Rattle.model.specs.Rules.{Rules, okTask, okSize, needOf, base}
 use Rattle.model.specs.Calls.{offsetOf, noPlace, Request, get, plain, deny, okLimit, isPoll, leftOf, entryOf, State, state, blocks, goes, tests, act}
 use Rattle.model.specs.Places.{noEntry, entriesOf, tidy, wokenOf}
-use Rattle.model.specs.Pool.{stored, view, performBy, isSound, result, answered, called}
+use Rattle.model.specs.Pool.{Stored, stored, view, performBy, rulesOf, isSound, result, answered, called}
 use Rattle.model.proofs.Tests.{by, and-l, and-f-r, not-f}
 use Rattle.model.proofs.Bytes.{Bytes}
 use Rattle.model.proofs.Soundness.{no-some, past}
@@ -118,10 +117,16 @@ pub judged-go : (v : Option ℤ) (l : ℤ) (p : Bool) (left : ℕ) → judged v 
 judged-go (some c) l p left e = absurd (let z : _≡_ {A = ℕ} 0 1 = cc in omega arith)
 judged-go none l p left e = record { passes = refl; poll = cc; time = cc }
 
-time-left : (l : ℤ) → cond (isPoll l) 0 (leftOf l) ≡ leftOf l
-time-left (pos zero) = refl
-time-left (pos (suc n)) = rw (ne-eqb (suc n) 0 (λ z. omega arith))
-time-left (negsuc n) = refl
+-- a poll never stands in the queue, so its time left does not matter
+poll-admitted : (s : Stored) (t n a b : ℕ) → admitted s (entry t n a) true ≡ admitted s (entry t n b) true
+unfolding base
+poll-admitted s t n a b = by (goes (rulesOf base s) (blocks (rulesOf base s)) (entry t n a) (view s)) (λ g. rw g) (λ g. rw g)
+
+admitted-left : (s : Stored) (t n left : ℕ) (l : ℤ) → left ≡ cond (isPoll l) 0 (leftOf l) → admitted s (entry t n left) (isPoll l) ≡ admitted s (entry t n (leftOf l)) (isPoll l)
+admitted-left s t n left l e =
+    by (isPoll l)
+    (λ h. rw h (poll-admitted s t n left (leftOf l)))
+    (λ h. let time : left ≡ leftOf l = rw h at e in rw time)
 
 module _ (l : List ℕ) (q : Queue) (t n : ℕ) (limit : ℤ) where
   abbrev K : Rules
@@ -141,9 +146,8 @@ module _ (l : List ℕ) (q : Queue) (t n : ℕ) (limit : ℤ) where
   unfolding performBy act view
   get-admitted p left h e =
       let g = judged-go (asked K r (entriesOf q)) limit p left e in
-      let time : left ≡ leftOf limit = g .time ∙ time-left limit in
       let poll = g .poll in
-      rw (time, poll, h, asked-none K r (view (stored l q)) (g .passes))
+      rw (poll, admitted-left (stored l q) t n left limit (g .time), h, asked-none K r (view (stored l q)) (g .passes))
 
   pub get-fair : (p : Bool) (left : ℕ) (f : Found) → isSound base (stored l q) ≡ true → judged (asked K r (entriesOf q)) limit ≡ Go p left
       → f ≡ seek (sought (target.Run (needOf n))) 0 0 (blocksOf l) → Fair l q (entry t n left) f

@@ -49,7 +49,7 @@ pub fn create(pool: &mut [u8]) -> Answer
     state::refuse(0, queue)
 }
 
-// A block for a task: granted where nobody waits and a run fits, else the task waits, for so many ticks, forever (-1) or not at all (0).
+// A block for a task: granted where nobody waits and a run fits, else the task waits, through `limit` ticks, forever (-1) or not at all (0).
 pub fn get(pool: &mut [u8], queue: Queue, task: u32, size: u32, limit: i32) -> Answer
     ensures { λ r. ⌜ result r (now (pool .exit)) ≡ called (calls.get (request task size limit)) (now (pool .entry)) queue ⌝ }
 {

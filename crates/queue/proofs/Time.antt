@@ -128,20 +128,25 @@ limit-zero (pos zero) s e = refl
 limit-zero (pos (suc m)) s e = absurd (omega (arith, e))
 limit-zero (negsuc m) s e = absurd (omega (arith, s .sfits, e))
 
-ticks : (n : ℤ) → SFits w32 n → (ofZ w32 n ≡ 0 → ⊥) → ltZ n (pos 0) ≡ false → Wait (natAbs n) ≡ limitOf n
+ticks : (n : ℤ) → SFits w32 n → (ofZ w32 n ≡ 0 → ⊥) → ltZ n (pos 0) ≡ false → Wait (natAbs n + 1) ≡ limitOf n
 ticks (pos zero) s u e = absurd (u refl)
 ticks (pos (suc m)) s u e = rw (le-leb (suc m) longest-limit (omega (arith, s .sfits)), ne-eqb (suc m) 0 (λ z. omega arith))
 ticks (negsuc m) s u e = absurd (let z : _≡_ {A = ℕ} 0 1 = cc in omega arith)
 
-pub limit-ticks : (n : ℤ) → SFits w32 n → (ofZ w32 n ≡ 0 → ⊥) → ltZ (toZ w32 (ofZ w32 n)) (pos 0) ≡ false → Wait (natAbs (toZ w32 (ofZ w32 n))) ≡ limitOf n
+pub limit-ticks : (n : ℤ) → SFits w32 n → (ofZ w32 n ≡ 0 → ⊥) → ltZ (toZ w32 (ofZ w32 n)) (pos 0) ≡ false → Wait (natAbs (toZ w32 (ofZ w32 n)) + 1) ≡ limitOf n
 limit-ticks n s u e = rw (toZ-ofZ w32 n s) (ticks n s u (sign n s false e))
 
-cast : (n : ℤ) → SFits w32 n → ltZ n (pos 0) ≡ false → T (nonNeg n) × Fits w32 (natAbs n)
-cast (pos m) s e = (tt, record { fits = omega (arith, s .sfits) })
-cast (negsuc m) s e = absurd (let z : _≡_ {A = ℕ} 0 1 = cc in omega arith)
+-- a limit that is not negative, and one more, fit an unsigned number
+pub record Counted (n : ℤ) : Type 0 where
+  pub cast : T (nonNeg n) × Fits w32 (natAbs n)
+  pub more : Fits w32 (natAbs n + 1)
 
-pub limit-cast : (n : ℤ) → SFits w32 n → ltZ (toZ w32 (ofZ w32 n)) (pos 0) ≡ false → T (nonNeg (toZ w32 (ofZ w32 n))) × Fits w32 (natAbs (toZ w32 (ofZ w32 n)))
-limit-cast n s e = rw (toZ-ofZ w32 n s) (cast n s (sign n s false e))
+counted : (n : ℤ) → SFits w32 n → ltZ n (pos 0) ≡ false → Counted n
+counted (pos m) s e = record { cast = (tt, record { fits = omega (arith, s .sfits) }); more = record { fits = omega (arith, s .sfits) } }
+counted (negsuc m) s e = absurd (let z : _≡_ {A = ℕ} 0 1 = cc in omega arith)
+
+pub limit-counted : (n : ℤ) → SFits w32 n → ltZ (toZ w32 (ofZ w32 n)) (pos 0) ≡ false → Counted (toZ w32 (ofZ w32 n))
+limit-counted n s e = rw (toZ-ofZ w32 n s) (counted n s (sign n s false e))
 
 -- ---- what a limit asks for, in the model's words
 

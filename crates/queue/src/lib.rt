@@ -258,7 +258,7 @@ pub enum Limit {
     Wait(u32),
 }
 
-// -1 waits forever, 0 polls, a positive limit waits so many ticks, any other is refused.
+// -1 waits forever, 0 polls, a positive limit ends in the tick after so many, any other is refused.
 pub fn wait_of(limit: i32) -> Limit
     ensures { λ r. ⌜ r ≡ limitOf limit ⌝ }
 {
@@ -271,5 +271,5 @@ pub fn wait_of(limit: i32) -> Limit
     if limit == 0 {
         return Limit::Poll;
     }
-    Limit::Wait(limit as u32)
+    Limit::Wait(limit as u32 + 1)
 }

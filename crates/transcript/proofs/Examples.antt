@@ -44,9 +44,9 @@ log-text =
     ++ (119 ∷ 32 ∷ 51 ∷ 32 ∷ 48 ∷ 32 ∷ 56 ∷ 10 ∷ [])
     ++ (101 ∷ 110 ∷ 100 ∷ 32 ∷ 54 ∷ 32 ∷ 114 ∷ 101 ∷ 99 ∷ 111 ∷ 114 ∷ 100 ∷ 115 ∷ 10 ∷ [])
 
--- a tick that ends a wait and lets another be served, then a cancel of a task that does not wait
+-- a tick that wakes nobody, one that ends a wait of limit 1 and lets another be served, then a cancel of a task that does not wait
 abbrev ticks : List ℕ
-ticks = 0x40 ∷ 0x01 ∷ 0x01 ∷ 0x0A ∷ 0x00 ∷ 0x01 ∷ 0x02 ∷ 0x14 ∷ 0x00 ∷ 0x01 ∷ 0x03 ∷ 0x0C ∷ 0x02 ∷ 0x01 ∷ 0x04 ∷ 0x04 ∷ 0x00 ∷ 0x05 ∷ 0x04 ∷ 0x03 ∷ []
+ticks = 0x40 ∷ 0x01 ∷ 0x01 ∷ 0x0A ∷ 0x00 ∷ 0x01 ∷ 0x02 ∷ 0x14 ∷ 0x00 ∷ 0x01 ∷ 0x03 ∷ 0x0C ∷ 0x02 ∷ 0x01 ∷ 0x04 ∷ 0x04 ∷ 0x00 ∷ 0x05 ∷ 0x05 ∷ 0x04 ∷ 0x03 ∷ []
 
 abbrev ticks-text : List ℕ
 ticks-text =
@@ -56,10 +56,11 @@ ticks-text =
     ++ (49 ∷ 32 ∷ 48 ∷ 10 ∷ [])
     ++ (49 ∷ 32 ∷ 48 ∷ 10 ∷ [])
     ++ (48 ∷ 32 ∷ 48 ∷ 10 ∷ [])
+    ++ (48 ∷ 32 ∷ 48 ∷ 10 ∷ [])
     ++ (119 ∷ 32 ∷ 51 ∷ 32 ∷ 45 ∷ 53 ∷ 48 ∷ 32 ∷ 48 ∷ 10 ∷ [])
     ++ (119 ∷ 32 ∷ 52 ∷ 32 ∷ 48 ∷ 32 ∷ 53 ∷ 54 ∷ 10 ∷ [])
     ++ (45 ∷ 52 ∷ 49 ∷ 32 ∷ 48 ∷ 10 ∷ [])
-    ++ (101 ∷ 110 ∷ 100 ∷ 32 ∷ 54 ∷ 32 ∷ 114 ∷ 101 ∷ 99 ∷ 111 ∷ 114 ∷ 100 ∷ 115 ∷ 10 ∷ [])
+    ++ (101 ∷ 110 ∷ 100 ∷ 32 ∷ 55 ∷ 32 ∷ 114 ∷ 101 ∷ 99 ∷ 111 ∷ 114 ∷ 100 ∷ 115 ∷ 10 ∷ [])
 
 -- a kind that is none, after a tick
 abbrev bad : List ℕ

@@ -18,6 +18,11 @@ pub fn waiting(pool: &Pool) -> Vec<u32> {
     pool.queue().iter().map(|waiter| waiter.task).collect()
 }
 
+/// Ticks left of each wait, head first, `None` for a wait without limit.
+pub fn times_left(pool: &Pool) -> Vec<Option<u32>> {
+    pool.queue().iter().map(|waiter| waiter.left).collect()
+}
+
 /// An answer with nobody woken, reason 0 and place 0.
 pub fn answer(code: i32, offset: u32) -> Answer {
     Answer {
