@@ -1,6 +1,6 @@
--- Demand 3 at work on the states of the table. Assumes nothing.
+-- Demand 3 and timeouts at work on the states of the table. Assumes nothing.
 use Prim.Native.Nat.{ℕ, zero, suc}
-use mathlib.Core.Path.{_≡_}
+use mathlib.Core.Path.{_≡_, refl}
 use mathlib.Core.Bool.{true}
 use mathlib.Core.List.{List, [], _∷_}
 use native.Mathlib.Omega.{arith}
@@ -9,14 +9,15 @@ use lib.IntN.{pos}
 use borrow.Author.Tests.{ltb-true}
 use Rattle.model.specs.Limits.{minus}
 use Rattle.model.specs.Rules.{base}
-use Rattle.model.specs.Calls.{Request}
-use Rattle.model.specs.Runs.{Absent, Others}
-use Rattle.model.specs.Demands.{NoTrace, undo, Undone}
-use Rattle.model.specs.Pool.{Typed, perform}
-use Rattle.model.proofs.Table.{below, state-c, ask, met}
+use Rattle.model.specs.Calls.{Request, Call, get}
+use Rattle.model.specs.Runs.{run, Spared, Absent, Others}
+use Rattle.model.specs.Demands.{NoTrace, undo, Undone, Timeout}
+use Rattle.model.specs.Pool.{Typed, waiters, perform}
+use Rattle.model.proofs.Table.{below, state-c, ask, askFor, state-limited, two-ticks, met}
 use Rattle.model.proofs.Tests.{and-l, and-r}
 use Rattle.model.proofs.Bytes.{Bytes}
-use Rattle.model.proofs.Theorems.{base-cancel-no-trace, base-release-undoes}
+use Rattle.model.proofs.Timeouts.{spared-none}
+use Rattle.model.proofs.Theorems.{base-cancel-no-trace, base-release-undoes, base-timeout}
 
 below-bytes : (l : List ℕ) → below l ≡ true → Bytes l
 unfolding below
@@ -53,3 +54,14 @@ no-trace-c = base-cancel-no-trace state-c (ask 3 12) others (met .sound-c) typed
 
 pub undone-c : Undone state-c (undo (perform base) state-c (ask 3 4))
 undone-c = base-release-undoes state-c (ask 3 4) (met .sound-c) typed-c (met .granted)
+
+-- ---- timeouts
+
+-- task 3 waits with a limit of 2, and two ticks follow with other calls between
+pub timeout-c : Timeout (perform base) waiters state-limited 3 2 two-ticks
+timeout-c = base-timeout state-c (askFor 3 12 2) 2 two-ticks (met .sound-c) refl (met .told-limited) (spared-none 3 (run (perform base) state-limited two-ticks) (met .spared))
+
+-- the greatest limit, in every run
+pub longest-c : (cs : List Call) → Spared 3 (run (perform base) (perform base (get (askFor 3 12 2147483647)) state-c .state) cs)
+    → Timeout (perform base) waiters (perform base (get (askFor 3 12 2147483647)) state-c .state) 3 2147483647 cs
+longest-c cs = base-timeout state-c (askFor 3 12 2147483647) 2147483647 cs (met .sound-c) refl (met .told-longest)

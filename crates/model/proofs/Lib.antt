@@ -11,6 +11,7 @@ pub mod Soundness
 pub mod Refusals
 pub mod Reasons
 pub mod NoTrace
+pub mod Timeouts
 pub mod Runs
 pub mod Pool
 pub mod Base

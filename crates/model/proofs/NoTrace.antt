@@ -63,6 +63,20 @@ module _ (K : Rules) {P : Type 0} (E : Store P) where
       let q : x .code ≡ k = sym (ap (λ (a : Reply (State P)). a .said .code) e) ∙ z in
       clash (refuses k) (rw q at (test-refuses K E (get r) s x t)) n
 
+  -- a get that is told to wait has passed the tests and joins the queue
+  pub record Joined (f : Request) (s : State P) : Type 0 where
+    pub fair : Passed K E f s
+    pub is : step K E (get f) s ≡ joins K E (entryOf f) s
+
+  pub told-joins : (f : Request) (s : State P) → sound K E s ≡ true → step K E (get f) s .said .code ≡ waiting → Joined f s
+  unfolding refuses
+  told-joins f s h z = go (outcome f s h)
+    where
+      go : Outcome f s → Joined f s
+      go (refusal x t e) = refused-not f s x waiting t e z refl
+      go (granting n g e) = code-not (step K E (get f) s) (grants K E (entryOf f) s) waiting e z (λ q. let z : _≡_ {A = ℕ} 0 1 = cc in omega arith)
+      go (joining n g e) = record { fair = passed K E f s n; is = e }
+
   module _ (L : Laws K) (S : StoreLaws K E) where
     -- ---- second half
 
@@ -259,13 +273,8 @@ module _ (K : Rules) {P : Type 0} (E : Store P) where
 
     pub no-trace : (s : State P) (f : Request) (rs : List Request) → sound K E s ≡ true → step K E (get f) s .said .code ≡ waiting
         → Others (f .task) rs → Ranked (K .rank) (K .rank (entryOf f)) rs → NoTrace (step K E) s f rs
-    unfolding refuses
-    no-trace s f rs h z os rk = go (outcome f s h)
-      where
-        go : Outcome f s → NoTrace (step K E) s f rs
-        go (refusal x t e) = refused-not f s x waiting t e z refl
-        go (granting n g e) = code-not (step K E (get f) s) (grants K E (entryOf f) s) waiting e z (λ q. let z : _≡_ {A = ℕ} 0 1 = cc in omega arith)
-        go (joining n g e) =
-            let q = passed K E f s n in
-            let r = induct (f .task) (K .rank (entryOf f)) (q .task) rs (joins K E (entryOf f) s .state) s [] (first-twin s f h q e) os rk (fresh-nil rs) in
-            record { cancelled = rw e (r .cancelled); refused = rw e (r .refused) }
+    no-trace s f rs h z os rk =
+        let o = told-joins f s h z in
+        let e = o .is in
+        let r = induct (f .task) (K .rank (entryOf f)) (o .fair .task) rs (joins K E (entryOf f) s .state) s [] (first-twin s f h (o .fair) e) os rk (fresh-nil rs) in
+        record { cancelled = rw e (r .cancelled); refused = rw e (r .refused) }

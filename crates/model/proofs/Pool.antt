@@ -1,4 +1,4 @@
--- The calls on bytes and places are the calls on block list and entries; demand 3 brought to bytes and places. Assumes nothing.
+-- The calls on bytes and places are the calls on block list and entries; demand 3 and timeouts brought to bytes and places. Assumes nothing.
 use Prim.Native.Nat.{ℕ, _≤_}
 use mathlib.Core.Path.{_≡_, refl, sym, ap, _∙_}
 use mathlib.Core.Bool.{Bool, true, false}
@@ -8,17 +8,18 @@ use mathlib.Core.Option.{Option, none, some}
 use native.Mathlib.Omega.{arith}
 use native.Mathlib.Nat.{add-zero}
 use lib.ListN.{length}
-use Rattle.model.specs.Limits.{most-tasks, e-ok, waiting, e-sys, e-rlwai, already-free}
+use lib.IntN.{pos}
+use Rattle.model.specs.Limits.{most-tasks, minus, e-ok, waiting, e-sys, e-rlwai, already-free}
 use Rattle.model.specs.Blocks.{Block, block, total, tiled}
-use Rattle.model.specs.Waiting.{Entry, remove}
+use Rattle.model.specs.Waiting.{Entry, waits, remove}
 use Rattle.model.specs.Rules.{Rules, Laws, queued}
 use Rattle.model.specs.Calls.{BlockOffset, noOffset, noPlace, Request, Call, get, release, cancel, tick, inquire, Said, Reply, says, Refusal, plain, refuse, decide, entryOf, leaves, blocks, Store, State, state, fitting, given, serve, headStuck, sound, isLive, misplaced, tests, verdict, act, step}
 use Rattle.model.specs.Refusals.{Refused}
-use Rattle.model.specs.Runs.{Turn, after, run, gets, refuses, refusedBy, refusals, winners, Others, Ranked}
-use Rattle.model.specs.Demands.{Seen, NoTrace, undo, Undone, OneHolder}
+use Rattle.model.specs.Runs.{Turn, after, run, wakeCode, endCode, Spared, gets, refuses, refusedBy, refusals, winners, Others, Ranked}
+use Rattle.model.specs.Demands.{Seen, NoTrace, undo, Undone, Timeout, OneHolder}
 use Rattle.model.specs.Bytes.{blocksOf, render, erase}
 use Rattle.model.specs.Places.{noEntry, pad, used, allUnused, tidy, entriesOf, queueOf}
-use Rattle.model.specs.Pool.{Stored, stored, Typed, view, settled, soundBy, performBy, rulesOf, isSound, perform, create}
+use Rattle.model.specs.Pool.{Stored, stored, Typed, view, waiters, settled, soundBy, performBy, rulesOf, isSound, perform, create}
 use Rattle.model.proofs.Tests.{by, clash, and-l, and-r, and-i}
 use Rattle.model.proofs.Blocks.{untile}
 use Rattle.model.proofs.Waiting.{open-queued, entry-asked, remove-queued, queued-length}
@@ -29,6 +30,7 @@ use Rattle.model.proofs.Soundness.{no-some, Sound, open-sound, close-so
 use Rattle.model.proofs.Refusals.{verdict-refused, refused-verdict, refused-code, misplaced-because, done-code, act-code, act-no-reason}
 use Rattle.model.proofs.Reasons.{live-released, released-live, held-at}
 use Rattle.model.proofs.NoTrace.{Outcome, refusal, granting, joining, outcome, no-trace, get-release}
+use Rattle.model.proofs.Timeouts.{timeout, unlimited}
 use Rattle.model.proofs.Runs.{runs-alike, ends-alike}
 
 -- ---- a state as it is kept, given the rules
@@ -311,6 +313,16 @@ module _ (R : ℕ → Rules) (law : (n : ℕ) → Laws (R n)) (long-is : (n : �
             let k = act-sound K B (law n) (block-laws K) c s h e in
             record { said = rw (g, u); shown = rw (g, u) (record { long = settled-length p a (o .long) k; good = settled-sound p a (o .long) k; is = settled-view p a (o .long) k }) }
 
+    alike : (c : Call) (cs : List Call) (p : Stored) (s : State (List Block)) → Shown p s → (perform R c p .said ≡ step K B c s .said) × Shown (perform R c p .state) (step K B c s .state)
+    alike c cs p s o = let u = next c p s o in (u .said, u .shown)
+
+    -- what a run is told, and what it leaves
+    runs-shown : (cs : List Call) (p : Stored) (s : State (List Block)) → Shown p s → run (perform R) p cs ≡ run (step K B) s cs
+    runs-shown = runs-alike (perform R) (step K B) (λ _. Shown) alike
+
+    ends-shown : (cs : List Call) (p : Stored) (s : State (List Block)) → Shown p s → Shown (after (perform R) p cs) (after (step K B) s cs)
+    ends-shown = ends-alike (perform R) (step K B) (λ _. Shown) alike
+
     -- ---- and whose bytes are b with the state's headers written
 
     record Shows (b : List ℕ) (p : Stored) (s : State (List Block)) : Type 0 where
@@ -375,15 +387,11 @@ module _ (R : ℕ → Rules) (law : (n : ℕ) → Laws (R n)) (long-is : (n : �
 
   -- a run on bytes and places is told what the run on block list and entries is told
   pub run-view : (p : Stored) (cs : List Call) → isSound R p ≡ true → run (perform R) p cs ≡ run (step (rulesOf R p) (blocks (rulesOf R p))) (view p) cs
-  run-view p cs h =
-      let n = length (p .bytes) in
-      runs-alike (perform R) (step (R n) (blocks (R n))) (λ _. Shown n) (λ c cs p s o. let u = next n c p s o in (u .said, u .shown)) cs p (view p) (own p h)
+  run-view p cs h = runs-shown (length (p .bytes)) cs p (view p) (own p h)
 
   -- every run leaves a sound state sound
   pub after-sound : (p : Stored) (cs : List Call) → isSound R p ≡ true → isSound R (after (perform R) p cs) ≡ true
-  after-sound p cs h =
-      let n = length (p .bytes) in
-      ends-alike (perform R) (step (R n) (blocks (R n))) (λ _. Shown n) (λ c cs p s o. let u = next n c p s o in (u .said, u .shown)) cs p (view p) (own p h) .good
+  after-sound p cs h = ends-shown (length (p .bytes)) cs p (view p) (own p h) .good
 
   pub perform-seen : (c : Call) (p : Stored) → isSound R p ≡ true → Seen R c p
   perform-seen c p h = let u = next (length (p .bytes)) c p (view p) (own p h) in record { said = u .said; state = u .shown .is }
@@ -459,6 +467,60 @@ module _ (R : ℕ → Rules) (law : (n : ℕ) → Laws (R n)) (long-is : (n : �
         blocks = ap (λ (x : State (List Block)). x .pool) back;
         queue = sym places ∙ ap (λ (x : State (List Block)). queueOf (x .queue)) back ∙ queue-entries (p .queue) (t .places) (open-stored K p h .1);
       })
+
+  -- ---- timeouts: a get that is told to wait, and a run from there
+
+  module _ (p : Stored) (f : Request) (cs : List Call) (h : isSound R p ≡ true) (z : perform R (get f) p .said .code ≡ waiting)
+      (sp : Spared (f .task) (run (perform R) (perform R (get f) p .state) cs)) where
+    abbrev n : ℕ
+    n = length (p .bytes)
+
+    abbrev steps : Call → State (List Block) → Reply (State (List Block))
+    steps = step (R n) (blocks (R n))
+
+    -- the states that the get leaves
+    abbrev p₁ : Stored
+    p₁ = perform R (get f) p .state
+
+    abbrev s₁ : State (List Block)
+    s₁ = steps (get f) (view p) .state
+
+    good : sound (R n) (blocks (R n)) (view p) ≡ true
+    good = shown-sound n p (view p) (own p h)
+
+    first : Next n (get f) p (view p)
+    first = next n (get f) p (view p) (own p h)
+
+    told : steps (get f) (view p) .said .code ≡ waiting
+    told = ap (λ (x : Said). x .code) (sym (first .said)) ∙ z
+
+    turns : run (perform R) p₁ cs ≡ run steps s₁ cs
+    turns = runs-shown n cs p₁ s₁ (first .shown)
+
+    end : Shown n (after (perform R) p₁ cs) (after steps s₁ cs)
+    end = ends-shown n cs p₁ s₁ (first .shown)
+
+    waits-shown : (b : Bool) (p : Stored) (s : State (List Block)) → Shown n p s → waits (f .task) (s .queue) ≡ b → waits (f .task) (waiters p) ≡ b
+    unfolding view
+    waits-shown b p s o e = ap (λ (x : State (List Block)). waits (f .task) (x .queue)) (o .is) ∙ e
+
+    pub perform-timeout : (k : ℕ) → f .limit ≡ pos k → Timeout (perform R) waiters p₁ (f .task) k cs
+    perform-timeout k e =
+        let m = timeout (R n) (blocks (R n)) (law n) (block-laws (R n)) (view p) f cs good told (rw turns at sp) k e in
+        let pe = after (perform R) p₁ cs in
+        let se = after steps s₁ cs in
+        let last = next n tick pe se end in
+        record {
+          ends = ap (endCode (f .task)) turns ∙ m .ends;
+          waiting = λ i. waits-shown true pe se end (m .waiting i);
+          woken = λ i. ap (λ (x : Said). wakeCode (f .task) (x .woken)) (last .said) ∙ m .woken i;
+          gone = λ i. waits-shown false (perform R tick pe .state) (steps tick se .state) (last .shown) (m .gone i);
+        }
+
+    pub perform-unlimited : f .limit ≡ minus 1 → (endCode (f .task) (run (perform R) p₁ cs) ≡ none) × (waits (f .task) (waiters (after (perform R) p₁ cs)) ≡ true)
+    perform-unlimited e =
+        let m = unlimited (R n) (blocks (R n)) (law n) (block-laws (R n)) (view p) f cs good told (rw turns at sp) e in
+        (ap (endCode (f .task)) turns ∙ m .0, waits-shown true (after (perform R) p₁ cs) (after steps s₁ cs) end (m .1))
 
   -- ---- create
 

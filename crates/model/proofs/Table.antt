@@ -3,16 +3,17 @@ use Prim.Native.Nat.{ℕ}
 use mathlib.Core.Path.{_≡_, refl}
 use mathlib.Core.Bool.{Bool, true, false, _&&_}
 use mathlib.Core.List.{List, [], _∷_}
-use mathlib.Core.Option.{some}
+use mathlib.Core.Option.{none, some}
 use lib.ListN.{length, replicate}
 use lib.Dec.{ltb}
+use lib.IntN.{pos}
 use Rattle.model.specs.Limits.{forever, minus, e-ok, waiting, e-sys, inside-block}
 use Rattle.model.specs.Blocks.{Block, block, total, tiled, fits, firstFit, carve, granted, startsAt, holder, join, freed, sumFree, greatestFree}
 use Rattle.model.specs.Bytes.{blocksFrom, le32, header, overlay, written, mask, render, erase}
 use Rattle.model.specs.Waiting.{Entry, waits, remove, headTask, insert, blocked, leads, expired, remaining}
 use Rattle.model.specs.Rules.{queued, base}
-use Rattle.model.specs.Calls.{Request, get, tick, plain, because, leave, blocks, serve, headStuck, sound, tests, act}
-use Rattle.model.specs.Runs.{refuses, refusedBy}
+use Rattle.model.specs.Calls.{Request, Call, get, poll, cancel, tick, inquire, plain, because, leave, blocks, serve, headStuck, sound, tests, act}
+use Rattle.model.specs.Runs.{run, wakeCode, endCode, ticks, refuses, refusedBy}
 use Rattle.model.specs.Places.{pad, used, allUnused, tidy, queueOf}
 use Rattle.model.specs.Pool.{Stored, stored, view, soundBy, performBy, isSound, perform, create}
 use Rattle.model.specs.Table.{linesFrom, stateFrom, playedAll, fresh, at, to-c, to-e, blocks-c, queue-e, table}
@@ -29,7 +30,7 @@ unfoldable pub below : List ℕ → Bool
 below [] = true
 below (x ∷ l) = ltb x 256 && below l
 
--- ---- the states after c and after e, and three that are not sound
+-- ---- the states after c and after e, and others, sound or not
 
 abbrev pub state-c : Stored
 state-c = stateFrom (fresh 64 .state) to-c
@@ -50,8 +51,22 @@ free-neighbours = made (block 20 0 ∷ block 44 0 ∷ []) []
 abbrev head-fits : Stored
 head-fits = made blocks-c (record { task = 3; size = 8; left = forever } ∷ [])
 
+-- task 3 waits for 12 bytes, with a time left
+abbrev with-left : ℕ → Stored
+with-left l = made blocks-c (record { task = 3; size = 12; left = l } ∷ [])
+
 abbrev pub ask : ℕ → ℕ → Request
 ask t n = record { task = t; size = n; limit = minus 1 }
+
+abbrev pub askFor : ℕ → ℕ → ℕ → Request
+askFor t n limit = record { task = t; size = n; limit = pos limit }
+
+-- task 3 waits with a limit of 2; then two ticks, and calls that do not serve it
+abbrev pub state-limited : Stored
+state-limited = perform base (get (askFor 3 12 2)) state-c .state
+
+abbrev pub two-ticks : List Call
+two-ticks = get (ask 4 4) ∷ tick ∷ poll 5 4 ∷ inquire ∷ at 12 ∷ tick ∷ cancel 4 ∷ []
 
 pub record Met : Type 0 where
   pub valid : base 64 .valid ≡ true
@@ -60,17 +75,26 @@ pub record Met : Type 0 where
   pub spoiled-not : isSound base spoiled ≡ false
   pub free-neighbours-not : isSound base free-neighbours ≡ false
   pub head-fits-not : isSound base head-fits ≡ false
+  pub left-none-not : isSound base (with-left 0) ≡ false
+  pub left-least : isSound base (with-left 1) ≡ true
+  pub left-most : isSound base (with-left 2147483648) ≡ true
+  pub left-above-not : isSound base (with-left 2147483649) ≡ false
+  pub left-forever : isSound base (with-left forever) ≡ true
   pub bytes-c : below (state-c .bytes) ≡ true
   pub places-c : length (state-c .queue .entries) ≡ 32
   pub list-c : blocks (base 64) .sound blocks-c ≡ true
   pub list-e : queued (base 64) queue-e ≡ true
   pub told : perform base (get (ask 3 12)) state-c .said .code ≡ waiting
+  pub told-limited : perform base (get (askFor 3 12 2)) state-c .said .code ≡ waiting
+  pub told-longest : perform base (get (askFor 3 12 2147483647)) state-c .said .code ≡ waiting
+  pub spared : endCode 3 (run (perform base) state-limited two-ticks) ≡ none
+  pub ticked : ticks two-ticks ≡ 2
   pub granted : perform base (get (ask 3 4)) state-c .said .code ≡ e-ok
   pub refused : refusedBy (perform base (at 12) state-c .said) ≡ some (because inside-block (record { 0 = 0 }))
   pub refused-spoiled : refusedBy (perform base tick spoiled .said) ≡ some (plain e-sys)
 
 pub met : Met
-unfolding total tiled fits firstFit carve granted startsAt holder join freed sumFree greatestFree blocksFrom le32 header overlay written mask render erase waits remove headTask insert blocked leads expired remaining queued base leave serve headStuck sound tests act pad used allUnused tidy view soundBy performBy create stateFrom refuses below
+unfolding total tiled fits firstFit carve granted startsAt holder join freed sumFree greatestFree blocksFrom le32 header overlay written mask render erase waits remove headTask insert blocked leads expired remaining queued base leave serve headStuck sound tests act pad used allUnused tidy view soundBy performBy create stateFrom run wakeCode endCode ticks refuses below
 met =
     record {
       valid = refl;
@@ -79,11 +103,20 @@ met =
       spoiled-not = refl;
       free-neighbours-not = refl;
       head-fits-not = refl;
+      left-none-not = refl;
+      left-least = refl;
+      left-most = refl;
+      left-above-not = refl;
+      left-forever = refl;
       bytes-c = refl;
       places-c = refl;
       list-c = refl;
       list-e = refl;
       told = refl;
+      told-limited = refl;
+      told-longest = refl;
+      spared = refl;
+      ticked = refl;
       granted = refl;
       refused = refl;
       refused-spoiled = refl;

@@ -7,17 +7,18 @@ use mathlib.Core.List.{List}
 use mathlib.Core.Option.{none, some}
 use native.Mathlib.Omega.{arith}
 use lib.ListN.{length}
-use Rattle.model.specs.Limits.{most-tasks, e-ok, waiting, already-free}
+use lib.IntN.{pos}
+use Rattle.model.specs.Limits.{most-tasks, minus, e-ok, waiting, already-free}
 use Rattle.model.specs.Blocks.{Block}
-use Rattle.model.specs.Waiting.{Entry}
+use Rattle.model.specs.Waiting.{Entry, waits}
 use Rattle.model.specs.Rules.{Rules, Laws, queued, base}
 use Rattle.model.specs.Calls.{BlockOffset, noPlace, Request, Call, get, release, Refusal, refuse, entryOf, blocks, isLive, step}
 use Rattle.model.specs.Refusals.{Refused}
-use Rattle.model.specs.Runs.{after, run, refuses, refusedBy, Others, Ranked}
+use Rattle.model.specs.Runs.{after, run, endCode, Spared, refuses, refusedBy, Others, Ranked}
 use Rattle.model.specs.Bytes.{blocksOf, render}
 use Rattle.model.specs.Places.{entriesOf, queueOf}
-use Rattle.model.specs.Demands.{Seen, NoTrace, undo, Undone, OneHolder}
-use Rattle.model.specs.Pool.{Stored, Typed, view, rulesOf, isSound, perform, create}
+use Rattle.model.specs.Demands.{Seen, NoTrace, undo, Undone, Timeout, OneHolder}
+use Rattle.model.specs.Pool.{Stored, Typed, view, waiters, rulesOf, isSound, perform, create}
 use Rattle.model.proofs.Bytes.{blocks-render, render-blocks}
 use Rattle.model.proofs.Places.{queued-live, used-pad, queue-entries}
 use Rattle.model.proofs.Waiting.{queued-length}
@@ -112,6 +113,19 @@ module _ (R : ℕ → Rules) (law : (n : ℕ) → Laws (R n)) (long-is : (n : �
   pub release-undoes : (p : Stored) (r : Request) → isSound R p ≡ true → Typed p → perform R (get r) p .said .code ≡ e-ok → Undone p (undo (perform R) p r)
   release-undoes p r h t z = P.perform-undone R law long-is p r h t z
 
+  -- ---- timeouts, for every run after a get that was told to wait, if its task is neither served nor cancelled meanwhile
+
+  -- a limit of n ticks: it waits through n ticks and leaves with -50 in the next
+  pub timeout : (p : Stored) (f : Request) (n : ℕ) (cs : List Call) → isSound R p ≡ true → f .limit ≡ pos n → perform R (get f) p .said .code ≡ waiting
+      → Spared (f .task) (run (perform R) (perform R (get f) p .state) cs) → Timeout (perform R) waiters (perform R (get f) p .state) (f .task) n cs
+  timeout p f n cs h e z sp = P.perform-timeout R law long-is p f cs h z sp n e
+
+  -- no limit: nobody wakes it
+  pub unlimited : (p : Stored) (f : Request) (cs : List Call) → isSound R p ≡ true → f .limit ≡ minus 1 → perform R (get f) p .said .code ≡ waiting
+      → Spared (f .task) (run (perform R) (perform R (get f) p .state) cs)
+      → (endCode (f .task) (run (perform R) (perform R (get f) p .state) cs) ≡ none) × (waits (f .task) (waiters (after (perform R) (perform R (get f) p .state) cs)) ≡ true)
+  unlimited p f cs h e z sp = P.perform-unlimited R law long-is p f cs h z sp e
+
 -- ---- the pool of document 01
 
 pub base-create-sound : (l : List ℕ) → base (length l) .valid ≡ true → isSound base (create base l .state) ≡ true
@@ -170,3 +184,12 @@ base-cancel-no-trace p f rs h t z os = cancel-no-trace base base-laws base-long 
 
 pub base-release-undoes : (p : Stored) (r : Request) → isSound base p ≡ true → Typed p → perform base (get r) p .said .code ≡ e-ok → Undone p (undo (perform base) p r)
 base-release-undoes = release-undoes base base-laws base-long
+
+pub base-timeout : (p : Stored) (f : Request) (n : ℕ) (cs : List Call) → isSound base p ≡ true → f .limit ≡ pos n → perform base (get f) p .said .code ≡ waiting
+    → Spared (f .task) (run (perform base) (perform base (get f) p .state) cs) → Timeout (perform base) waiters (perform base (get f) p .state) (f .task) n cs
+base-timeout = timeout base base-laws base-long
+
+pub base-unlimited : (p : Stored) (f : Request) (cs : List Call) → isSound base p ≡ true → f .limit ≡ minus 1 → perform base (get f) p .said .code ≡ waiting
+    → Spared (f .task) (run (perform base) (perform base (get f) p .state) cs)
+    → (endCode (f .task) (run (perform base) (perform base (get f) p .state) cs) ≡ none) × (waits (f .task) (waiters (after (perform base) (perform base (get f) p .state) cs)) ≡ true)
+base-unlimited = unlimited base base-laws base-long

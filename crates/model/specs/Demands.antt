@@ -1,12 +1,16 @@
--- What demands 2 and 3 say of the calls, and what a refused release says of its offset.
+-- What demands 2 and 3 say of the calls, how long a wait with a time limit lasts, and what a refused release says of its offset.
 use Prim.Native.Nat.{ℕ, _+_, _≤_, _<_}
 use mathlib.Core.Path.{_≡_}
+use mathlib.Core.Bool.{true, false, cond}
 use mathlib.Core.List.{List, [], _∷_, _++_}
-use Rattle.model.specs.Limits.{e-ok, e-rlwai}
+use mathlib.Core.Option.{none, some}
+use lib.Dec.{leb}
+use Rattle.model.specs.Limits.{e-ok, e-rlwai, e-tmout}
 use Rattle.model.specs.Blocks.{Block, total}
+use Rattle.model.specs.Waiting.{Entry, waits}
 use Rattle.model.specs.Rules.{Rules}
-use Rattle.model.specs.Calls.{noOffset, Request, Call, get, release, cancel, Reply, says, leaves, blocks, step}
-use Rattle.model.specs.Runs.{after, run, gets, refusals, winners}
+use Rattle.model.specs.Calls.{noOffset, Request, Call, get, release, cancel, tick, Reply, says, leaves, blocks, step}
+use Rattle.model.specs.Runs.{after, run, wakeCode, endCode, ticks, gets, refusals, winners}
 use Rattle.model.specs.Bytes.{blocksOf}
 use Rattle.model.specs.Pool.{Stored, view, rulesOf, perform}
 
@@ -31,6 +35,14 @@ pub record Undone (p : Stored) (a : Reply Stored) : Type 0 where
   pub said : a .said ≡ says e-ok noOffset []
   pub blocks : blocksOf (a .state .bytes) ≡ blocksOf (p .bytes)
   pub queue : a .state .queue ≡ p .queue
+
+-- Timeouts: a get of the task t with a limit of n ticks was told to wait and left the state s, and the calls cs follow. With at most n ticks among
+-- them none wakes it, and it still waits; with more, its wait has ended with -50. After n, it is the next tick that wakes it, and it waits no more.
+pub record Timeout {S : Type 0} (step : Call → S → Reply S) (entries : S → List Entry) (s : S) (t n : ℕ) (cs : List Call) : Type 0 where
+  pub ends : endCode t (run step s cs) ≡ cond (leb (ticks cs) n) none (some e-tmout)
+  pub waiting : ticks cs ≤ n → waits t (entries (after step s cs)) ≡ true
+  pub woken : ticks cs ≡ n → wakeCode t (step tick (after step s cs) .said .woken) ≡ some e-tmout
+  pub gone : ticks cs ≡ n → waits t (entries (step tick (after step s cs) .state)) ≡ false
 
 -- a block of the list, with its header at the place a, has the byte i among its bytes
 pub record HolderOf (i : ℕ) (bs : List Block) (a : ℕ) : Type 0 where

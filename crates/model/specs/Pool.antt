@@ -10,6 +10,7 @@ pub use Rattle.model.specs.declared.Totals.{Totals}
 use Rattle.model.specs.Limits.{most-tasks, e-ok, e-par}
 use Rattle.model.specs.Blocks.{Block, block}
 use Rattle.model.specs.Bytes.{blocksOf, render, erase}
+use Rattle.model.specs.Waiting.{Entry}
 use Rattle.model.specs.Rules.{Rules, base}
 use Rattle.model.specs.Calls.{Call, inquire, noOffset, Said, Reply, State, state, says, plain, decide, deny, blocks, sound, verdict, act}
 use Rattle.model.specs.Places.{Queue, tidy, entriesOf, queueOf, wokenOf}
@@ -29,6 +30,9 @@ pub record Typed (p : Stored) : Type 0 where
 -- the block list and the entries
 unfoldable pub view : Stored → State (List Block)
 view p = state (blocksOf (p .bytes)) (entriesOf (p .queue))
+
+abbrev pub waiters : Stored → List Entry
+waiters p = entriesOf (p .queue)
 
 -- After a call, headers of the old block list are erased and those of the new one written: new headers stand in their places, swallowed ones are
 -- zero, every other byte is kept.

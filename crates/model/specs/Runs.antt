@@ -1,12 +1,12 @@
--- Runs: calls one after the other, each handed its state as the call before left it; and lists of gets.
-use Prim.Native.Nat.{ℕ, zero, suc}
+-- Runs: calls one after the other, each handed its state as the call before left it; how a wait ends in a run; and lists of gets.
+use Prim.Native.Nat.{ℕ, zero, suc, _+_}
 use mathlib.Core.Path.{_≡_}
 use mathlib.Core.Bool.{Bool, true, false, cond}
 use mathlib.Core.List.{List, [], _∷_}
 use mathlib.Core.Option.{Option, none, some}
 use lib.Dec.{eqb}
 use lib.IntN.{ℤ, pos, negsuc}
-use Rattle.model.specs.Limits.{e-ok}
+use Rattle.model.specs.Limits.{e-ok, e-rlwai}
 use Rattle.model.specs.Waiting.{Entry}
 use Rattle.model.specs.Calls.{Woken, Request, Call, get, release, cancel, tick, inquire, Said, Refusal, Reply, entryOf}
 
@@ -24,6 +24,39 @@ module _ {S : Type 0} (step : Call → S → Reply S) where
   unfoldable pub run : S → List Call → List Turn
   run s [] = []
   run s (c ∷ cs) = record { call = c; said = step c s .said } ∷ run (step c s .state) cs
+
+-- ---- how a wait ends in a run
+
+-- the code with which the task t is woken, if it is
+unfoldable pub wakeCode : ℕ → List Woken → Option ℤ
+wakeCode t [] = none
+wakeCode t (w ∷ ws) = cond (eqb (w .task) t) (some (w .code)) (wakeCode t ws)
+
+abbrev pub firstOf : {A : Type 0} → Option A → Option A → Option A
+firstOf (some x) y = some x
+firstOf none y = y
+
+-- the code with which the first call that wakes the task t does so, if one does
+unfoldable pub endCode : ℕ → List Turn → Option ℤ
+endCode t [] = none
+endCode t (x ∷ l) = firstOf (wakeCode t (x .said .woken)) (endCode t l)
+
+-- the wait of the task t is ended neither by a block nor by a cancellation
+pub record Spared (t : ℕ) (l : List Turn) : Type 0 where
+  pub unserved : endCode t l ≡ some e-ok → ⊥
+  pub uncancelled : endCode t l ≡ some e-rlwai → ⊥
+
+-- the ticks that pass with a call
+abbrev pub passes : Call → ℕ
+passes (get r) = 0
+passes (release o) = 0
+passes (cancel t) = 0
+passes tick = 1
+passes inquire = 0
+
+unfoldable pub ticks : List Call → ℕ
+ticks [] = 0
+ticks (c ∷ cs) = passes c + ticks cs
 
 -- ---- lists of gets
 

@@ -1,28 +1,33 @@
--- Demands 1 to 3 about what the contracts of the calls cite: `created`, `called` and `inquired`. Assumes nothing.
+-- Demands 1 to 3 and timeouts about what the contracts of the calls cite: `created`, `called` and `inquired`. Assumes nothing.
 use Prim.Native.Nat.{ℕ, _≤_}
 use mathlib.Core.Path.{_≡_, refl, sym, ap, _∙_}
 use mathlib.Core.Logic.{_↔_, _⊎_}
-use mathlib.Core.Bool.{true, false}
+use mathlib.Core.Bool.{true, false, cond}
 use mathlib.Core.List.{List, [], _∷_}
 use mathlib.Core.Option.{Option, none, some}
+use native.Mathlib.Omega.{arith}
 use lib.ListN.{length}
+use lib.Dec.{leb}
+use lib.IntN.{pos}
+use borrow.Author.Tests.{leb-true}
 use Rattle.model.specs.declared.BlockOffset.{BlockOffset}
 use Rattle.model.specs.declared.Queue.{Queue}
 use Rattle.model.specs.declared.Answer.{Answer}
-use Rattle.model.specs.Limits.{e-ok, waiting, e-sys, e-par, e-rlwai, already-free}
+use Rattle.model.specs.Limits.{most-tasks, minus, e-ok, waiting, e-sys, e-par, e-id, e-rlwai, e-tmout, already-free}
 use Rattle.model.specs.Blocks.{block, sumFree, greatestFree}
 use Rattle.model.specs.Bytes.{blocksOf, render}
-use Rattle.model.specs.Waiting.{headTask}
-use Rattle.model.specs.Rules.{Rules, okLong, base}
-use Rattle.model.specs.Calls.{noOffset, noPlace, Request, Call, get, release, cancel, inquire, Reply, Refusal, plain, leaves, blocks, sound, isLive, tests, act, step}
-use Rattle.model.specs.Refusals.{Refused}
-use Rattle.model.specs.Runs.{after, run, gets, refuses, refusals, winners, Others}
+use Rattle.model.specs.Waiting.{waits, headTask}
+use Rattle.model.specs.Rules.{Rules, okTask, okLong, base}
+use Rattle.model.specs.Calls.{noOffset, noPlace, Request, Call, get, release, cancel, tick, inquire, Reply, Refusal, plain, leaves, blocks, sound, isLive, tests, act, step}
+use Rattle.model.specs.Refusals.{Refused, get-id}
+use Rattle.model.specs.Runs.{after, run, wakeCode, endCode, Spared, ticks, gets, refuses, refusals, winners, Others}
 use Rattle.model.specs.Places.{tidy, entriesOf, queueOf, wokenOf}
-use Rattle.model.specs.Pool.{Stored, stored, Typed, view, settled, soundBy, isSound, perform, create, Result, result, answered, created, called, inquired, totals}
-use Rattle.model.specs.Demands.{NoTrace, undo, Undone, OneHolder}
-use Rattle.model.proofs.Tests.{and-l}
+use Rattle.model.specs.Pool.{Stored, stored, Typed, view, waiters, settled, soundBy, isSound, perform, create, Result, result, answered, created, called, inquired, totals}
+use Rattle.model.specs.Demands.{NoTrace, undo, Undone, Timeout, OneHolder}
+use Rattle.model.proofs.Tests.{by, and-l}
 use Rattle.model.proofs.Pool.{by-unsound, by-done}
-use Rattle.model.proofs.Theorems.{base-refusal-keeps, base-refusal-when, base-release-refused-when, base-done-no-reason, base-release-refused-live, base-release-place, base-call-seen, base-cancel-no-trace, base-release-undoes}
+use Rattle.model.proofs.Timeouts.{wake-pad}
+use Rattle.model.proofs.Theorems.{base-call-sound, base-run-sound, base-refusal-keeps, base-refusal-when, base-release-refused-when, base-done-no-reason, base-release-refused-live, base-release-place, base-call-seen, base-cancel-no-trace, base-release-undoes, base-timeout, base-unlimited}
 pub use Rattle.model.proofs.Theorems.{base-blocks-of-render, base-render-of-blocks, base-entries-of-queue, base-queue-of-entries, base-woken-fit}
 use Rattle.pool.specs.Steps.{refusal, refusedIn}
 use Rattle.pool.proofs.Inspecting.{State as Parts, open-state, called-refused, called-done, kept-bytes, kept-queue}
@@ -152,3 +157,48 @@ module _ (l : List ℕ) (q : Queue) (h : isSound base (stored l q) ≡ true) (t 
     -- and the former block list
     pub release-restores-blocks : blocksOf (back .bytes) ≡ blocksOf l
     release-restores-blocks = undone .blocks
+
+-- ---- timeouts: the get f is told to wait, and then a run that neither serves nor cancels its task
+
+module _ (l : List ℕ) (q : Queue) (h : isSound base (stored l q) ≡ true) (f : Request) (cs : List Call) (z : called (get f) l q .answer .code ≡ waiting) where
+  -- the state that the get left, and the state after the run
+  abbrev begun : Stored
+  begun = stored (called (get f) l q .bytes) (called (get f) l q .answer .queue)
+
+  abbrev later : Stored
+  later = after (perform base) begun cs
+
+  in-range : okTask (base (length l)) (f .task) ≡ true
+  in-range =
+      by (okTask (base (length l)) (f .task))
+      (λ a. a)
+      (λ a. let e = call-refused (get f) l q (plain e-id) (call-refused-when (get f) l q (plain e-id) .1 (get-id h a)) in
+      let k : e-id ≡ waiting = sym (ap (λ (x : Result). x .answer .code) e) ∙ z in
+      absurd (let z : _≡_ {A = ℕ} 0 1 = cc in omega arith))
+
+  task-least : 1 ≤ f .task
+  task-least = leb-true 1 (f .task) (and-l (leb 1 (f .task)) (leb (f .task) (base (length l) .tasks)) in-range)
+
+  module _ (spared : Spared (f .task) (run (perform base) begun cs)) where
+    -- no limit: the task still waits
+    pub unlimited-waits : f .limit ≡ minus 1 → waits (f .task) (entriesOf (later .queue)) ≡ true
+    unlimited-waits e = base-unlimited (stored l q) f cs h e z spared .1
+
+    module _ (n : ℕ) (limit : f .limit ≡ pos n) where
+      timed : Timeout (perform base) waiters begun (f .task) n cs
+      timed = base-timeout (stored l q) f n cs h limit z spared
+
+      -- a limit of n: with at most n ticks in the run no call of it wakes the task, which still waits; with more, the wait has ended with -50
+      pub limited-ends : endCode (f .task) (run (perform base) begun cs) ≡ cond (leb (ticks cs) n) none (some e-tmout)
+      limited-ends = timed .ends
+
+      pub limited-waits : ticks cs ≤ n → waits (f .task) (entriesOf (later .queue)) ≡ true
+      limited-waits k = timed .waiting k
+
+      -- after n it is the next tick that wakes it with -50, and it waits no more
+      pub next-tick-wakes : ticks cs ≡ n → wakeCode (f .task) (called tick (later .bytes) (later .queue) .answer .woken) ≡ some e-tmout
+      next-tick-wakes k =
+          wake-pad (f .task) most-tasks (perform base tick later .said .woken) task-least (base-woken-fit tick later (base-run-sound begun cs (base-call-sound (get f) (stored l q) h))) ∙ timed .woken k
+
+      pub next-tick-ends : ticks cs ≡ n → waits (f .task) (entriesOf (called tick (later .bytes) (later .queue) .answer .queue)) ≡ false
+      next-tick-ends k = timed .gone k
