@@ -1,4 +1,5 @@
 -- `queue::wait_of` meets its contract. Assumes nothing.
+use native.Mathlib.Omega.{arith}
 use Rattle.queue.proofs.Time.{limit-forever, limit-below, limit-zero, limit-counted, limit-ticks}
 use Rattle.queue.proofs.wait_of.Statement.{statement}
 use Rattle.queue.proofs.wait_of.Tie as tie
@@ -16,7 +17,7 @@ cast-t3 : tie.Need-cast-t3
 cast-t3 c = limit-counted (c .before .before .before .args .limit) (c .before .before .before .fits .limit) (c .before .if2 .left) .cast
 
 add-t4 : tie.Need-add-t4
-add-t4 c = limit-counted (c .before .before .before .args .limit) (c .before .before .before .fits .limit) (c .before .if2 .left) .more
+add-t4 c = record { fits = omega (arith, limit-counted (c .before .before .before .args .limit) (c .before .before .before .fits .limit) (c .before .if2 .left) .more .fits) }
 
 returns-4 : tie.Need-returns-4
 returns-4 c = limit-ticks (c .before .before .before .args .limit) (c .before .before .before .fits .limit) (c .if3 .left) (c .before .if2 .left)
