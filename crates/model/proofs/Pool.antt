@@ -16,7 +16,7 @@ use Rattle.model.specs.Rules.{Rules, Laws, queued}
 use Rattle.model.specs.Calls.{BlockOffset, noOffset, noPlace, Request, Call, get, release, cancel, tick, inquire, Said, Reply, says, Refusal, plain, refuse, decide, entryOf, leaves, blocks, Store, State, state, fitting, given, serve, headStuck, sound, isLive, misplaced, tests, verdict, act, step}
 use Rattle.model.specs.Refusals.{Refused}
 use Rattle.model.specs.Runs.{Turn, after, run, wakeCode, endCode, Spared, gets, refuses, refusedBy, refusals, winners, Others, Ranked}
-use Rattle.model.specs.Demands.{Seen, NoTrace, undo, Undone, Timeout, OneHolder}
+use Rattle.model.specs.Demands.{Seen, NoTrace, undo, Undone, Timeout, Untimed, OneHolder}
 use Rattle.model.specs.Bytes.{blocksOf, render, erase}
 use Rattle.model.specs.Places.{noEntry, pad, used, allUnused, tidy, entriesOf, queueOf}
 use Rattle.model.specs.Pool.{Stored, stored, Typed, view, waiters, settled, soundBy, performBy, rulesOf, isSound, perform, create}
@@ -517,10 +517,10 @@ module _ (R : ℕ → Rules) (law : (n : ℕ) → Laws (R n)) (long-is : (n : �
           gone = λ i. waits-shown false (perform R tick pe .state) (steps tick se .state) (last .shown) (m .gone i);
         }
 
-    pub perform-unlimited : f .limit ≡ minus 1 → (endCode (f .task) (run (perform R) p₁ cs) ≡ none) × (waits (f .task) (waiters (after (perform R) p₁ cs)) ≡ true)
+    pub perform-unlimited : f .limit ≡ minus 1 → Untimed (perform R) waiters p₁ (f .task) cs
     perform-unlimited e =
         let m = unlimited (R n) (blocks (R n)) (law n) (block-laws (R n)) (view p) f cs good told (rw turns at sp) e in
-        (ap (endCode (f .task)) turns ∙ m .0, waits-shown true (after (perform R) p₁ cs) (after steps s₁ cs) end (m .1))
+        record { ends = ap (endCode (f .task)) turns ∙ m .ends; waiting = waits-shown true (after (perform R) p₁ cs) (after steps s₁ cs) end (m .waiting) }
 
   -- ---- create
 

@@ -10,14 +10,14 @@ use lib.ListN.{length}
 use lib.IntN.{pos}
 use Rattle.model.specs.Limits.{most-tasks, minus, e-ok, waiting, already-free}
 use Rattle.model.specs.Blocks.{Block}
-use Rattle.model.specs.Waiting.{Entry, waits}
+use Rattle.model.specs.Waiting.{Entry}
 use Rattle.model.specs.Rules.{Rules, Laws, queued, base}
 use Rattle.model.specs.Calls.{BlockOffset, noPlace, Request, Call, get, release, Refusal, refuse, entryOf, blocks, isLive, step}
 use Rattle.model.specs.Refusals.{Refused}
-use Rattle.model.specs.Runs.{after, run, endCode, Spared, refuses, refusedBy, Others, Ranked}
+use Rattle.model.specs.Runs.{after, run, Spared, refuses, refusedBy, Others, Ranked}
 use Rattle.model.specs.Bytes.{blocksOf, render}
 use Rattle.model.specs.Places.{entriesOf, queueOf}
-use Rattle.model.specs.Demands.{Seen, NoTrace, undo, Undone, Timeout, OneHolder}
+use Rattle.model.specs.Demands.{Seen, NoTrace, undo, Undone, Timeout, Untimed, OneHolder}
 use Rattle.model.specs.Pool.{Stored, Typed, view, waiters, rulesOf, isSound, perform, create}
 use Rattle.model.proofs.Bytes.{blocks-render, render-blocks}
 use Rattle.model.proofs.Places.{queued-live, used-pad, queue-entries}
@@ -122,8 +122,7 @@ module _ (R : ℕ → Rules) (law : (n : ℕ) → Laws (R n)) (long-is : (n : �
 
   -- no limit: nobody wakes it
   pub unlimited : (p : Stored) (f : Request) (cs : List Call) → isSound R p ≡ true → f .limit ≡ minus 1 → perform R (get f) p .said .code ≡ waiting
-      → Spared (f .task) (run (perform R) (perform R (get f) p .state) cs)
-      → (endCode (f .task) (run (perform R) (perform R (get f) p .state) cs) ≡ none) × (waits (f .task) (waiters (after (perform R) (perform R (get f) p .state) cs)) ≡ true)
+      → Spared (f .task) (run (perform R) (perform R (get f) p .state) cs) → Untimed (perform R) waiters (perform R (get f) p .state) (f .task) cs
   unlimited p f cs h e z sp = P.perform-unlimited R law long-is p f cs h z sp e
 
 -- ---- the pool of document 01
@@ -190,6 +189,5 @@ pub base-timeout : (p : Stored) (f : Request) (n : ℕ) (cs : List Call) → isS
 base-timeout = timeout base base-laws base-long
 
 pub base-unlimited : (p : Stored) (f : Request) (cs : List Call) → isSound base p ≡ true → f .limit ≡ minus 1 → perform base (get f) p .said .code ≡ waiting
-    → Spared (f .task) (run (perform base) (perform base (get f) p .state) cs)
-    → (endCode (f .task) (run (perform base) (perform base (get f) p .state) cs) ≡ none) × (waits (f .task) (waiters (after (perform base) (perform base (get f) p .state) cs)) ≡ true)
+    → Spared (f .task) (run (perform base) (perform base (get f) p .state) cs) → Untimed (perform base) waiters (perform base (get f) p .state) (f .task) cs
 base-unlimited = unlimited base base-laws base-long

@@ -15,8 +15,8 @@ use Rattle.model.specs.Rules.{Rules, Laws, queued}
 use Rattle.model.specs.Calls.{Woken, placeOf, Request, Call, get, release, cancel, tick, inquire, Reply, Refusal, leftOf, entryOf, leaves, leave, Store, State, fitting, given, wakes, serve, sound, goes, tests, act, step}
 use Rattle.model.specs.Runs.{Turn, after, run, wakeCode, endCode, Spared, passes, ticks}
 use Rattle.model.specs.Places.{noWoken, pad}
-use Rattle.model.specs.Demands.{Timeout}
-use Rattle.model.proofs.Tests.{by, clash, or-f-l, or-f-r, or-f}
+use Rattle.model.specs.Demands.{Timeout, Untimed}
+use Rattle.model.proofs.Tests.{by, clash, or-f-l, or-f-r}
 use Rattle.model.proofs.Waiting.{open-queued, lead-waits}
 use Rattle.model.proofs.Store.{StoreLaws}
 use Rattle.model.proofs.Soundness.{no-some, open-sound, passed, step-refused, step-done, verdict-sound, step-sound}
@@ -108,6 +108,16 @@ unfolding leftIn waits
 left-waits t l [] h = no-some (sym h)
 left-waits t l (e ∷ q) h = by (eqb (e .task) t) (λ g. rw g) (λ g. rw g (left-waits t l q (rw g at h)))
 
+left-none : (t : ℕ) (q : List Entry) → waits t q ≡ false → leftIn t q ≡ none
+unfolding leftIn waits
+left-none t [] w = refl
+left-none t (e ∷ q) w = rw (or-f-l (eqb (e .task) t) (waits t q) w) (left-none t q (or-f-r (eqb (e .task) t) (waits t q) w))
+
+none-waits : (t : ℕ) (q : List Entry) → leftIn t q ≡ none → waits t q ≡ false
+unfolding leftIn waits
+none-waits t [] h = refl
+none-waits t (e ∷ q) h = by (eqb (e .task) t) (λ g. no-some (rw g at h)) (λ g. rw g (none-waits t q (rw g at h)))
+
 left-remove : (t x : ℕ) (q : List Entry) → (x ≡ t → ⊥) → leftIn t (remove x q) ≡ leftIn t q
 unfolding leftIn remove
 left-remove t x [] n = refl
@@ -134,68 +144,38 @@ module _ (rank : Entry → ℕ) where
       (λ h. rw (h, n) (left-insert-same e q (or-f-r (eqb (x .task) (e .task)) (waits (e .task) q) w)))
       (λ h. rw (h, eq-eqb (e .task) (e .task) refl))
 
--- ---- a tick
+-- ---- a tick: a time left of 1 ends, any other is a tick less
 
--- who does not wait is not woken, and does not wait after it
-expired-away : (t : ℕ) (c : ℤ) (q : List Entry) → waits t q ≡ false → wakeCode t (leave c (expired q)) ≡ none
-unfolding waits expired leave wakeCode
-expired-away t c [] w = refl
-expired-away t c (e ∷ q) w =
-    let ih = expired-away t c q (or-f-r (eqb (e .task) t) (waits t q) w) in
-    by (expires e) (λ h. rw h (rw (or-f-l (eqb (e .task) t) (waits t q) w) ih)) (λ h. rw h ih)
+abbrev ticked : Option ℕ → Option ℕ
+ticked none = none
+ticked (some l) = cond (eqb l 1) none (some (older 1 l))
 
-remaining-away : (t : ℕ) (q : List Entry) → waits t q ≡ false → waits t (remaining q) ≡ false
-unfolding waits remaining
-remaining-away t [] w = refl
-remaining-away t (e ∷ q) w =
-    let ih = remaining-away t q (or-f-r (eqb (e .task) t) (waits t q) w) in
-    by (expires e) (λ h. rw h ih) (λ h. rw h (or-f (eqb (e .task) t) _ (or-f-l (eqb (e .task) t) (waits t q) w) ih))
+abbrev ended : ℤ → Option ℕ → Option ℤ
+ended c none = none
+ended c (some l) = cond (eqb l 1) (some c) none
 
--- a time left of 1 ends, any other is a tick less
-expired-last : (t : ℕ) (c : ℤ) (q : List Entry) → leftIn t q ≡ some 1 → wakeCode t (leave c (expired q)) ≡ some c
-unfolding leftIn expired leave wakeCode
-expired-last t c [] h = no-some (sym h)
-expired-last t c (e ∷ q) h =
-    by (eqb (e .task) t)
-    (λ g. let s : some (e .left) ≡ some 1 = rw g at h in
-    let k : e .left ≡ 1 = cc in
-    rw (eq-eqb (e .left) 1 k) (rw g))
-    (λ g. let ih = expired-last t c q (rw g at h) in by (expires e) (λ x. rw x (rw g ih)) (λ x. rw x ih))
-
-remaining-left : (t l : ℕ) (q : List Entry) → (l ≡ 1 → ⊥) → leftIn t q ≡ some l → leftIn t (remaining q) ≡ some (older 1 l)
-unfolding leftIn remaining older
-remaining-left t l [] n h = no-some (sym h)
-remaining-left t l (e ∷ q) n h =
-    by (eqb (e .task) t)
-    (λ g. let s : some (e .left) ≡ some l = rw g at h in
-    let k : e .left ≡ l = cc in
-    rw (ne-eqb (e .left) 1 (λ z. n (sym k ∙ z))) (rw g (rw k)))
-    (λ g. let ih = remaining-left t l q n (rw g at h) in by (expires e) (λ x. rw x ih) (λ x. rw x (rw g ih)))
-
-module _ (K : Rules) where
+module _ (K : Rules) (t : ℕ) where
   -- in a queue each task stands once
-  behind-away : (t : ℕ) (e : Entry) (q : List Entry) → queued K (e ∷ q) ≡ true → e .task ≡ t → waits t q ≡ false
-  behind-away t e q o k = rw k at (lead-waits K e q (open-queued K e q o .lead))
+  behind-none : (e : Entry) (q : List Entry) → queued K (e ∷ q) ≡ true → eqb (e .task) t ≡ true → leftIn t q ≡ none
+  behind-none e q o g = left-none t q (rw (eqb-true (e .task) t g) at (lead-waits K e q (open-queued K e q o .lead)))
 
-  expired-not : (t l : ℕ) (c : ℤ) (q : List Entry) → queued K q ≡ true → (l ≡ 1 → ⊥) → leftIn t q ≡ some l → wakeCode t (leave c (expired q)) ≡ none
+  left-remaining : (q : List Entry) → queued K q ≡ true → leftIn t (remaining q) ≡ ticked (leftIn t q)
+  unfolding leftIn remaining older
+  left-remaining [] o = refl
+  left-remaining (e ∷ q) o =
+      let ih = left-remaining q (open-queued K e q o .rest) in
+      by (eqb (e .task) t)
+      (λ g. by (expires e) (λ x. rw (x, g) (rw x (ih ∙ ap ticked (behind-none e q o g)))) (λ x. rw (x, g) (rw x)))
+      (λ g. by (expires e) (λ x. rw (x, g) ih) (λ x. rw (x, g) ih))
+
+  wake-expired : (c : ℤ) (q : List Entry) → queued K q ≡ true → wakeCode t (leave c (expired q)) ≡ ended c (leftIn t q)
   unfolding leftIn expired leave wakeCode
-  expired-not t l c [] o n h = refl
-  expired-not t l c (e ∷ q) o n h =
+  wake-expired c [] o = refl
+  wake-expired c (e ∷ q) o =
+      let ih = wake-expired c q (open-queued K e q o .rest) in
       by (eqb (e .task) t)
-      (λ g. let s : some (e .left) ≡ some l = rw g at h in
-      let k : e .left ≡ l = cc in
-      rw (ne-eqb (e .left) 1 (λ z. n (sym k ∙ z))) (expired-away t c q (behind-away t e q o (eqb-true (e .task) t g))))
-      (λ g. let ih = expired-not t l c q (open-queued K e q o .rest) n (rw g at h) in by (expires e) (λ x. rw x (rw g ih)) (λ x. rw x ih))
-
-  remaining-gone : (t : ℕ) (q : List Entry) → queued K q ≡ true → leftIn t q ≡ some 1 → waits t (remaining q) ≡ false
-  unfolding leftIn waits remaining
-  remaining-gone t [] o h = refl
-  remaining-gone t (e ∷ q) o h =
-      by (eqb (e .task) t)
-      (λ g. let s : some (e .left) ≡ some 1 = rw g at h in
-      let k : e .left ≡ 1 = cc in
-      rw (eq-eqb (e .left) 1 k) (remaining-away t q (behind-away t e q o (eqb-true (e .task) t g))))
-      (λ g. let ih = remaining-gone t q (open-queued K e q o .rest) (rw g at h) in by (expires e) (λ x. rw x ih) (λ x. rw x (or-f (eqb (e .task) t) _ g ih)))
+      (λ g. by (expires e) (λ x. rw (x, g) (rw x)) (λ x. rw (x, g) (rw x (ih ∙ ap (ended c) (behind-none e q o g)))))
+      (λ g. by (expires e) (λ x. rw (x, g) ih) (λ x. rw (x, g) ih))
 
 module _ (K : Rules) {P : Type 0} (E : Store P) (t : ℕ) where
   -- ---- a call, and the wait of the task t
@@ -238,9 +218,11 @@ module _ (K : Rules) {P : Type 0} (E : Store P) (t : ℕ) where
   last-tick : (s : State P) → sound K E s ≡ true → leftIn t (s .queue) ≡ some 1 → Expired s
   unfolding act
   last-tick s h here =
+      let order = open-sound K E s h .order in
+      let q = s .queue in
       record {
-        woken = wake-first t e-tmout (leave e-tmout (expired (s .queue))) (serve K E (s .pool) (remaining (s .queue)) .woken) (expired-last t e-tmout (s .queue) here);
-        gone = serve-away (s .pool) (remaining (s .queue)) (remaining-gone K t (s .queue) (open-sound K E s h .order) here);
+        woken = wake-first t e-tmout (leave e-tmout (expired q)) (serve K E (s .pool) (remaining q) .woken) (wake-expired K t e-tmout q order ∙ ap (ended e-tmout) here);
+        gone = serve-away (s .pool) (remaining q) (none-waits t (remaining q) (left-remaining K t q order ∙ ap ticked here));
       }
 
   tick-done : (s : State P) → sound K E s ≡ true → step K E tick s ≡ act K E tick s
@@ -268,12 +250,13 @@ module _ (K : Rules) {P : Type 0} (E : Store P) (t : ℕ) where
         rw (older-zero l) (fate-past l (leaves e-rlwai x ∷ []) (v .woken) (v .state .queue) (wake-other t (leaves e-rlwai x) n)
         (serve-fate l (s .pool) (remove x (s .queue)) m (left-remove t x (s .queue) n ∙ here))))
     act-fate tick u =
-        let v = serve K E (s .pool) (remaining (s .queue)) in
+        let order = open-sound K E s h .order in
+        let q = s .queue in
+        let v = serve K E (s .pool) (remaining q) in
         by (eqb l 1)
         (λ g. let e = eqb-true l 1 g in lapsed (older-last l e) (last-tick s h (here ∙ ap some e) .woken))
-        (λ g. let n = eqb-false l 1 g in
-        fate-past (older 1 l) (leave e-tmout (expired (s .queue))) (v .woken) (v .state .queue) (expired-not K t l e-tmout (s .queue) (open-sound K E s h .order) n here)
-        (serve-fate (older 1 l) (s .pool) (remaining (s .queue)) (older-tick l m n) (remaining-left t l (s .queue) n here)))
+        (λ g. fate-past (older 1 l) (leave e-tmout (expired q)) (v .woken) (v .state .queue) (wake-expired K t e-tmout q order ∙ ap (ended e-tmout) here ∙ rw g)
+        (serve-fate (older 1 l) (s .pool) (remaining q) (older-tick l m (eqb-false l 1 g)) (left-remaining K t q order ∙ ap ticked here ∙ rw g)))
     act-fate inquire u = kept
 
     refused-fate : (c : Call) (k : Refusal) → tests K E c s ≡ some k → Fate (older (passes c) l) [] (s .queue)
@@ -382,10 +365,10 @@ module _ (K : Rules) {P : Type 0} (E : Store P) (L : Laws K) (S : StoreLaws K E)
             }
 
     -- no limit
-    pub unlimited : f .limit ≡ minus 1 → (endCode t (run (step K E) begun cs) ≡ none) × (waits t (later .queue) ≡ true)
+    pub unlimited : f .limit ≡ minus 1 → Untimed (step K E) (λ z. z .queue) begun t cs
     unfolding older
     unlimited e = go (runs (minus 1) e (omega arith) (omega arith))
       where
-        go : Course K E t L S begun cs forever → (endCode t (run (step K E) begun cs) ≡ none) × (waits t (later .queue) ≡ true)
+        go : Course K E t L S begun cs forever → Untimed (step K E) (λ z. z .queue) begun t cs
         go (timed-out z u) = absurd (omega (arith, z))
-        go (waiting-still m u here good) = (u, left-waits t forever (later .queue) here)
+        go (waiting-still m u here good) = record { ends = u; waiting = left-waits t forever (later .queue) here }

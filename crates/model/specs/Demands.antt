@@ -44,6 +44,11 @@ pub record Timeout {S : Type 0} (step : Call → S → Reply S) (entries : S →
   pub woken : ticks cs ≡ n → wakeCode t (step tick (after step s cs) .said .woken) ≡ some e-tmout
   pub gone : ticks cs ≡ n → waits t (entries (step tick (after step s cs) .state)) ≡ false
 
+-- The same of a get without a limit: none of the calls wakes it, and it still waits.
+pub record Untimed {S : Type 0} (step : Call → S → Reply S) (entries : S → List Entry) (s : S) (t : ℕ) (cs : List Call) : Type 0 where
+  pub ends : endCode t (run step s cs) ≡ none
+  pub waiting : waits t (entries (after step s cs)) ≡ true
+
 -- a block of the list, with its header at the place a, has the byte i among its bytes
 pub record HolderOf (i : ℕ) (bs : List Block) (a : ℕ) : Type 0 where
   pub pre : List Block

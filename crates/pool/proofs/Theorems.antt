@@ -168,21 +168,21 @@ module _ (l : List ℕ) (q : Queue) (h : isSound base (stored l q) ≡ true) (f 
   abbrev later : Stored
   later = after (perform base) begun cs
 
-  in-range : okTask (base (length l)) (f .task) ≡ true
-  in-range =
+  task-least : 1 ≤ f .task
+  task-least =
       by (okTask (base (length l)) (f .task))
-      (λ a. a)
+      (λ a. leb-true 1 (f .task) (and-l (leb 1 (f .task)) (leb (f .task) (base (length l) .tasks)) a))
       (λ a. let e = call-refused (get f) l q (plain e-id) (call-refused-when (get f) l q (plain e-id) .1 (get-id h a)) in
       let k : e-id ≡ waiting = sym (ap (λ (x : Result). x .answer .code) e) ∙ z in
       absurd (let z : _≡_ {A = ℕ} 0 1 = cc in omega arith))
 
-  task-least : 1 ≤ f .task
-  task-least = leb-true 1 (f .task) (and-l (leb 1 (f .task)) (leb (f .task) (base (length l) .tasks)) in-range)
-
   module _ (spared : Spared (f .task) (run (perform base) begun cs)) where
-    -- no limit: the task still waits
+    -- no limit: no call of the run wakes the task, which still waits
+    pub unlimited-ends : f .limit ≡ minus 1 → endCode (f .task) (run (perform base) begun cs) ≡ none
+    unlimited-ends e = base-unlimited (stored l q) f cs h e z spared .ends
+
     pub unlimited-waits : f .limit ≡ minus 1 → waits (f .task) (entriesOf (later .queue)) ≡ true
-    unlimited-waits e = base-unlimited (stored l q) f cs h e z spared .1
+    unlimited-waits e = base-unlimited (stored l q) f cs h e z spared .waiting
 
     module _ (n : ℕ) (limit : f .limit ≡ pos n) where
       timed : Timeout (perform base) waiters begun (f .task) n cs
