@@ -18,9 +18,16 @@ const FIFTH_MOST: u32 = 15;
 pub fn read_number(s: &[u8]) -> Number
     ensures { λ r. ⌜ r ≡ numberOf (now (s .entry)) ⌝ }
 {
-    let mut value: u32 = 0;
-    let mut weight: u32 = 1;
-    let mut i: usize = 0;
+    if s.len() == 0 {
+        return Number::Refused;
+    }
+    let first = s[0] as u32;
+    if first < 128 {
+        return Number::Value(first, 1);
+    }
+    let mut value = first - 128;
+    let mut weight: u32 = 128;
+    let mut i: usize = 1;
     while i < s.len() {
         let b = s[i] as u32;
         if FIFTH_MOST < b {
@@ -31,9 +38,7 @@ pub fn read_number(s: &[u8]) -> Number
         if b < 128 {
             // in the shortest form a last byte of 0 is the only byte
             if b == 0 {
-                if 0 < i {
-                    return Number::Refused;
-                }
+                return Number::Refused;
             }
             return Number::Value(value + weight * b, i + 1);
         }
