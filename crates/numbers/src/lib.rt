@@ -21,6 +21,7 @@ pub fn read_number(s: &[u8]) -> Number
     if s.len() == 0 {
         return Number::Refused;
     }
+    // most numbers of a log have one byte
     let first = s[0] as u32;
     if first < 128 {
         return Number::Value(first, 1);
