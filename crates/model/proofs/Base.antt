@@ -1,7 +1,7 @@
 -- The rules of document 01's pool meet the laws. Assumes nothing.
 use Prim.Native.Nat.{ℕ, _-_, _%_, _≤_}
 use mathlib.Core.Path.{_≡_, refl}
-use mathlib.Core.Bool.{true, _&&_}
+use mathlib.Core.Bool.{true, false, not, _&&_}
 use mathlib.Core.List.{List, [], _∷_}
 use native.Mathlib.Omega.{arith}
 use lib.Dec.{leb, eqb}
@@ -9,9 +9,9 @@ use borrow.Author.Tests.{leb-true, eqb-true}
 use Rattle.model.specs.Limits.{longest-pool}
 use Rattle.model.specs.Waiting.{Entry}
 use Rattle.model.specs.Rules.{Laws, okLong, okSize, base}
-use Rattle.model.specs.Calls.{Request}
-use Rattle.model.specs.Runs.{Ranked}
-use Rattle.model.proofs.Tests.{and-l, and-r}
+use Rattle.model.specs.Calls.{Request, Call, get, release, cancel, tick, inquire, Said}
+use Rattle.model.specs.Runs.{Turn, refuses, outranks, Unpassed, Ranked}
+use Rattle.model.proofs.Tests.{and-l, and-r, and-f-r}
 
 module _ (n : ℕ) where
   pub record Length : Type 0 where
@@ -44,6 +44,7 @@ module _ (n : ℕ) where
         tasks-most = omega arith;
         need-mod = λ e h. omega arith;
         need-least = λ e h. omega (arith, open-size (e .size) h .least);
+        need-most = λ v e h. omega (arith, open-long v .by-four, open-long v .least, open-size (e .size) h .most);
         allowed-left = λ l e. refl;
         rank-left = λ l e. refl;
       }
@@ -57,3 +58,16 @@ pub base-one-rank : (n : ℕ) (e : Entry) (rs : List Request) → Ranked (base n
 unfolding base Ranked
 base-one-rank n e [] = tt
 base-one-rank n e (r ∷ rs) = (refl, base-one-rank n e rs)
+
+-- and none is better than another
+pub base-unpassed : (n t : ℕ) (e : Entry) (l : List Turn) → Unpassed (base n .rank) t (base n .rank e) l
+unfolding base Unpassed
+base-unpassed n t e [] = tt
+base-unpassed n t e (x ∷ l) = (equal (x .said) (x .call), λ w. base-unpassed n t e l)
+  where
+    equal : (a : Said) (c : Call) → outranks (base n .rank) (base n .rank e) a c ≡ false
+    equal a (get q) = and-f-r (not (refuses (a .code))) false refl
+    equal a (release o) = refl
+    equal a (cancel x) = refl
+    equal a tick = refl
+    equal a inquire = refl

@@ -1,13 +1,13 @@
 -- Laws of the block list: what grant and release keep, and that a release undoes a grant. Assumes nothing.
 use Prim.Native.Nat.{ℕ, _+_, _-_, _%_, _≤_, _<_, max}
 use mathlib.Core.Path.{_≡_, refl, sym, ap, _∙_}
-use mathlib.Core.Bool.{Bool, true, false, not, _&&_, _||_}
+use mathlib.Core.Bool.{Bool, true, false, not, cond, _&&_, _||_}
 use mathlib.Core.List.{List, [], _∷_, _++_}
 use native.Mathlib.Omega.{arith}
 use native.Mathlib.Nat.{zero-max}
 use lib.Dec.{leb, ltb, eqb}
 use borrow.Author.Tests.{leb-true, leb-false, ltb-true, ltb-false, eqb-true, le-leb, lt-leb, lt-ltb, le-ltb, eq-eqb, ne-eqb}
-use Rattle.model.specs.Blocks.{Block, block, isFree, total, okBlock, tiled, holds, fits, firstFit, carve, granted, startsAt, liveAt, freeAt, holder, join, freed, greatestFree}
+use Rattle.model.specs.Blocks.{Block, block, isFree, total, okBlock, tiled, holds, fits, firstFit, carve, granted, startsAt, liveAt, freeAt, holder, join, freed, liveCount, greatestFree}
 use Rattle.model.specs.Demands.{HolderOf, OneHolder}
 use Rattle.model.proofs.Tests.{by, clash, and-l, and-r, and-i, and-f-r, or-f-l, or-f-r, or-f, not-t}
 
@@ -274,6 +274,60 @@ module _ (tasks : ℕ) where
         let z : eqb (b .size + firstFit n bs) 0 ≡ false = ne-eqb (b .size + firstFit n bs) 0 (omega (arith, o .least)) in
         let d : b .size + firstFit n bs - b .size ≡ firstFit n bs = omega arith in
         rw h (rw (z, d) (rw (granted-freed (isFree b) bs (o .rest) f2) (join-apart b bs (o .rest)))))
+
+-- ---- live blocks: a grant makes one more, a release one less
+
+module _ (n t : ℕ) (t1 : 1 ≤ t) where
+  carve-count : (b : Block) (bs : List Block) → liveCount (carve n t b bs) ≡ 1 + liveCount bs
+  unfolding carve liveCount
+  carve-count b bs =
+      let l : eqb t 0 ≡ false = ne-eqb t 0 (omega arith) in
+      by (leb (n + 12) (b .size)) (λ s. rw (s, l) (omega arith)) (λ s. rw (s, l))
+
+  pub granted-count : (bs : List Block) → fits n bs ≡ true → liveCount (granted n t bs) ≡ 1 + liveCount bs
+  unfolding granted fits liveCount
+  granted-count [] f = clash false f refl
+  granted-count (b ∷ bs) f =
+      by (holds n b)
+      (λ h. rw (h, eq-eqb (b .owner) 0 (open-holds n b h .free)) (omega (arith, carve-count b bs)))
+      (λ h. rw h (omega (arith, granted-count bs (rw h at f))))
+
+join-count : (b : Block) (bs : List Block) → liveCount (join b bs) ≡ cond (isFree b) 0 1 + liveCount bs
+unfolding join liveCount
+join-count b [] = refl
+join-count b (c ∷ bs) =
+    by (isFree c && isFree b)
+    (λ h. rw h (rw (and-l (isFree c) (isFree b) h, and-r (isFree c) (isFree b) h) (omega arith)))
+    (λ h. rw h)
+
+pub freed-count : (p : ℕ) (bs : List Block) → liveAt p bs ≡ true → 1 + liveCount (freed p bs) ≡ liveCount bs
+unfolding freed startsAt liveCount
+freed-count p [] e = clash false e refl
+freed-count p (b ∷ bs) e =
+    by (eqb p 0)
+    (λ h. rw (h, not-t (isFree b) (rw h at e)) (omega (arith, join-count (block (b .size) 0) bs)))
+    (λ h. let l : leb (b .size) p && liveAt (p - b .size) bs ≡ true = rw h at e in
+    let ih = freed-count (p - b .size) bs (and-r (leb (b .size) p) (liveAt (p - b .size) bs) l) in
+    rw h (omega (arith, join-count b (freed (p - b .size) bs), ih)))
+
+-- without a live block all is one free run
+module _ (tasks : ℕ) where
+  behind-free : (bs : List Block) → tiled tasks true bs ≡ true → liveCount bs ≡ 0 → total bs ≡ 0
+  unfolding total liveCount
+  behind-free [] e z = refl
+  behind-free (b ∷ bs) e z =
+      by (isFree b)
+      (λ f. clash (isFree b && true) (and-i (isFree b) true f refl) (tile tasks true b bs e .apart))
+      (λ f. absurd (omega (arith, rw f at z)))
+
+  pub free-fits : (n : ℕ) (bs : List Block) → 1 ≤ n → n ≤ total bs → tiled tasks false bs ≡ true → liveCount bs ≡ 0 → fits n bs ≡ true
+  unfolding total liveCount fits
+  free-fits n [] h l e z = absurd (omega arith)
+  free-fits n (b ∷ bs) h l e z =
+      by (isFree b)
+      (λ f. let none : total bs ≡ 0 = behind-free bs (rw f at (tile tasks false b bs e .rest)) (omega (arith, rw f at z)) in
+      rw (f, le-leb n (b .size) (omega (arith, none))))
+      (λ f. absurd (omega (arith, rw f at z)))
 
 -- ---- where a block starts, and which block holds a byte
 

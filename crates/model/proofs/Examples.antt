@@ -1,5 +1,5 @@
--- Demand 3 and timeouts at work on the states of the table. Assumes nothing.
-use Prim.Native.Nat.{ℕ, zero, suc}
+-- Demand 3, timeouts and the wait bound at work on the states of the table. Assumes nothing.
+use Prim.Native.Nat.{ℕ, zero, suc, _≤_}
 use mathlib.Core.Path.{_≡_, refl}
 use mathlib.Core.Bool.{true}
 use mathlib.Core.List.{List, [], _∷_}
@@ -10,14 +10,14 @@ use borrow.Author.Tests.{ltb-true}
 use Rattle.model.specs.Limits.{minus}
 use Rattle.model.specs.Rules.{base}
 use Rattle.model.specs.Calls.{Request, Call, get}
-use Rattle.model.specs.Runs.{run, Spared, Absent, Others}
-use Rattle.model.specs.Demands.{NoTrace, undo, Undone, Timeout}
+use Rattle.model.specs.Runs.{run, Spared, Unbroken, releases, Absent, Others}
+use Rattle.model.specs.Demands.{NoTrace, undo, Undone, Timeout, ServedWithin}
 use Rattle.model.specs.Pool.{Typed, waiters, perform}
-use Rattle.model.proofs.Table.{below, state-c, ask, askFor, state-limited, two-ticks, met}
+use Rattle.model.proofs.Table.{below, state-c, state-e, ask, askFor, state-limited, two-ticks, met, bounds}
 use Rattle.model.proofs.Tests.{and-l, and-r}
 use Rattle.model.proofs.Bytes.{Bytes}
-use Rattle.model.proofs.Timeouts.{spared-none}
-use Rattle.model.proofs.Theorems.{base-cancel-no-trace, base-release-undoes, base-timeout}
+use Rattle.model.proofs.Fates.{spared-none}
+use Rattle.model.proofs.Theorems.{base-cancel-no-trace, base-release-undoes, base-timeout, base-wait-bound}
 
 below-bytes : (l : List ℕ) → below l ≡ true → Bytes l
 unfolding below
@@ -65,3 +65,9 @@ timeout-c = base-timeout state-c (askFor 3 12 2) 2 two-ticks (met .sound-c) refl
 pub longest-c : (cs : List Call) → Spared 3 (run (perform base) (perform base (get (askFor 3 12 2147483647)) state-c .state) cs)
     → Timeout (perform base) waiters (perform base (get (askFor 3 12 2147483647)) state-c .state) 3 2147483647 cs
 longest-c cs = base-timeout state-c (askFor 3 12 2147483647) 2147483647 cs (met .sound-c) refl (met .told-longest)
+
+-- ---- the wait bound
+
+-- after e, task 4 is served at the latest in the third successful release of any run
+pub bound-e : (cs : List Call) → Unbroken 4 (run (perform base) state-e cs) → 3 ≤ releases (run (perform base) state-e cs) → ServedWithin (perform base) state-e 4 3 cs
+bound-e cs = rw (bounds .bound-e) at (base-wait-bound state-e 4 cs (met .sound-e) (bounds .waits-e))

@@ -11,9 +11,12 @@ pub mod Soundness
 pub mod Refusals
 pub mod Reasons
 pub mod NoTrace
+pub mod Fates
 pub mod Timeouts
+pub mod WaitBound
 pub mod Runs
 pub mod Pool
 pub mod Base
+pub mod Reached
 pub mod Theorems
 pub mod Examples

@@ -1,4 +1,4 @@
--- The calls on bytes and places are the calls on block list and entries; demand 3 and timeouts brought to bytes and places. Assumes nothing.
+-- The calls on bytes and places are the calls on block list and entries; demand 3, timeouts and the wait bound brought to bytes and places. Assumes nothing.
 use Prim.Native.Nat.{ℕ, _≤_}
 use mathlib.Core.Path.{_≡_, refl, sym, ap, _∙_}
 use mathlib.Core.Bool.{Bool, true, false}
@@ -10,27 +10,28 @@ use native.Mathlib.Nat.{add-zero}
 use lib.ListN.{length}
 use lib.IntN.{pos}
 use Rattle.model.specs.Limits.{most-tasks, minus, e-ok, waiting, e-sys, e-rlwai, already-free}
-use Rattle.model.specs.Blocks.{Block, block, total, tiled}
-use Rattle.model.specs.Waiting.{Entry, waits, remove}
+use Rattle.model.specs.Blocks.{Block, block, total, tiled, liveCount}
+use Rattle.model.specs.Waiting.{Entry, waits, entryIn, remove}
 use Rattle.model.specs.Rules.{Rules, Laws, queued}
 use Rattle.model.specs.Calls.{BlockOffset, noOffset, noPlace, Request, Call, get, release, cancel, tick, inquire, Said, Reply, says, Refusal, plain, refuse, decide, entryOf, leaves, blocks, Store, State, state, fitting, given, serve, headStuck, sound, isLive, misplaced, tests, verdict, act, step}
 use Rattle.model.specs.Refusals.{Refused}
-use Rattle.model.specs.Runs.{Turn, after, run, wakeCode, endCode, Spared, gets, refuses, refusedBy, refusals, winners, Others, Ranked}
-use Rattle.model.specs.Demands.{Seen, NoTrace, undo, Undone, Timeout, Untimed, OneHolder}
+use Rattle.model.specs.Runs.{Turn, after, run, refuses, refusedBy, wakeCode, endCode, Spared, Unbroken, releases, Unpassed, gets, refusals, winners, Others, Ranked}
+use Rattle.model.specs.Demands.{Seen, NoTrace, undo, Undone, Timeout, Untimed, ServedWithin, OneHolder}
 use Rattle.model.specs.Bytes.{blocksOf, render, erase}
 use Rattle.model.specs.Places.{noEntry, pad, used, allUnused, tidy, entriesOf, queueOf}
-use Rattle.model.specs.Pool.{Stored, stored, Typed, view, waiters, settled, soundBy, performBy, rulesOf, isSound, perform, create}
+use Rattle.model.specs.Pool.{Stored, stored, Typed, view, waiters, waitBound, settled, soundBy, performBy, rulesOf, isSound, perform, create}
 use Rattle.model.proofs.Tests.{by, clash, and-l, and-r, and-i}
 use Rattle.model.proofs.Blocks.{untile}
 use Rattle.model.proofs.Waiting.{open-queued, entry-asked, remove-queued, queued-length}
 use Rattle.model.proofs.Bytes.{Finer, finer-refl, finer-trans, granted-finer, render-length, erase-length, render-erase, render-render, blocks-render, render-blocks}
 use Rattle.model.proofs.Places.{queued-live, pad-length, used-pad, tidy-pad, queue-entries}
-use Rattle.model.proofs.Store.{open-blocks, close-blocks, block-laws}
+use Rattle.model.proofs.Store.{open-blocks, close-blocks, block-laws, count-laws}
 use Rattle.model.proofs.Soundness.{no-some, Sound, open-sound, close-sound, passed, passed-asked, step-refused, step-done, verdict-sound, act-sound, woken-length}
 use Rattle.model.proofs.Refusals.{verdict-refused, refused-verdict, refused-code, misplaced-because, done-code, act-code, act-no-reason}
 use Rattle.model.proofs.Reasons.{live-released, released-live, held-at}
 use Rattle.model.proofs.NoTrace.{Outcome, refusal, granting, joining, outcome, no-trace, get-release}
 use Rattle.model.proofs.Timeouts.{timeout, unlimited}
+use Rattle.model.proofs.WaitBound.{wait-bound}
 use Rattle.model.proofs.Runs.{runs-alike, ends-alike}
 
 -- ---- a state as it is kept, given the rules
@@ -277,12 +278,12 @@ module _ (R : ℕ → Rules) (law : (n : ℕ) → Laws (R n)) (long-is : (n : �
 
     -- ---- bytes and places that show a state
 
-    record Shown (p : Stored) (s : State (List Block)) : Type 0 where
-      long : length (p .bytes) ≡ n
-      good : isSound R p ≡ true
-      is : view p ≡ s
+    pub record Shown (p : Stored) (s : State (List Block)) : Type 0 where
+      pub long : length (p .bytes) ≡ n
+      pub good : isSound R p ≡ true
+      pub is : view p ≡ s
 
-    shown-sound : (p : Stored) (s : State (List Block)) → Shown p s → sound K B s ≡ true
+    pub shown-sound : (p : Stored) (s : State (List Block)) → Shown p s → sound K B s ≡ true
     shown-sound p s o = rw (o .is) at (open-stored K p (rw (o .long) at (o .good)) .0)
 
     perform-refused : (c : Call) (p : Stored) (s : State (List Block)) (k : Refusal) → Shown p s → tests K B c s ≡ some k → perform R c p ≡ refuse p k
@@ -291,11 +292,11 @@ module _ (R : ℕ → Rules) (law : (n : ℕ) → Laws (R n)) (long-is : (n : �
     perform-done : (c : Call) (p : Stored) (s : State (List Block)) → Shown p s → tests K B c s ≡ none → perform R c p ≡ settled p (act K B c s)
     perform-done c p s o e = rw (o .long) (by-done K c p (rw (o .long) at (o .good)) (rw (o .is) e) ∙ ap (λ (z : State (List Block)). settled p (act K B c z)) (o .is))
 
-    record Next (c : Call) (p : Stored) (s : State (List Block)) : Type 0 where
-      said : perform R c p .said ≡ step K B c s .said
-      shown : Shown (perform R c p .state) (step K B c s .state)
+    pub record Next (c : Call) (p : Stored) (s : State (List Block)) : Type 0 where
+      pub said : perform R c p .said ≡ step K B c s .said
+      pub shown : Shown (perform R c p .state) (step K B c s .state)
 
-    next : (c : Call) (p : Stored) (s : State (List Block)) → Shown p s → Next c p s
+    pub next : (c : Call) (p : Stored) (s : State (List Block)) → Shown p s → Next c p s
     next c p s o = go (tests K B c s) refl
       where
         h : sound K B s ≡ true
@@ -521,6 +522,32 @@ module _ (R : ℕ → Rules) (law : (n : ℕ) → Laws (R n)) (long-is : (n : �
     perform-unlimited e =
         let m = unlimited (R n) (blocks (R n)) (law n) (block-laws (R n)) (view p) f cs good told (rw turns at sp) e in
         record { ends = ap (endCode (f .task)) turns ∙ m .ends; waiting = waits-shown true (after (perform R) p₁ cs) (after steps s₁ cs) end (m .waiting) }
+
+  -- ---- the wait bound
+
+  serving-shown : (n t m : ℕ) (cs : List Call) (p : Stored) (s : State (List Block)) → Shown n p s → ServedWithin (step (R n) (blocks (R n))) s t m cs → ServedWithin (perform R) p t m cs
+  serving-shown n t m cs p s o w =
+      let turns = runs-shown n (w .before) p s o in
+      let last = next n (w .call) (after (perform R) p (w .before)) (after (step (R n) (blocks (R n))) s (w .before)) (ends-shown n (w .before) p s o) in
+      record {
+        before = w .before;
+        call = w .call;
+        rest = w .rest;
+        is = w .is;
+        waiting = ap (endCode t) turns ∙ w .waiting;
+        woken = ap (λ (x : Said). wakeCode t (x .woken)) (last .said) ∙ w .woken;
+        soon = rw turns (w .soon);
+      }
+
+  pub perform-bound : (p : Stored) (t : ℕ) (e : Entry) (cs : List Call) → isSound R p ≡ true → entryIn t (waiters p) ≡ some e
+      → Unpassed (rulesOf R p .rank) t (rulesOf R p .rank e) (run (perform R) p cs) → Unbroken t (run (perform R) p cs)
+      → waitBound p t ≤ releases (run (perform R) p cs) → ServedWithin (perform R) p t (waitBound p t) cs
+  unfolding view
+  perform-bound p t e cs h here up u j =
+      let n = length (p .bytes) in
+      let turns = run-view p cs h in
+      serving-shown n t (waitBound p t) cs p (view p) (own p h)
+      (wait-bound (R n) (blocks (R n)) liveCount (law n) (block-laws (R n)) (count-laws (R n)) t e (view p) cs (shown-sound n p (view p) (own p h)) here (rw turns at up) (rw turns at u) (rw turns at j))
 
   -- ---- create
 

@@ -6,11 +6,11 @@ use mathlib.Core.List.{List}
 use native.Mathlib.Omega.{arith}
 use lib.Dec.{eqb}
 use borrow.Author.Tests.{eqb-true, eq-eqb}
-use Rattle.model.specs.Blocks.{Block, isFree, total, tiled, granted, freed}
+use Rattle.model.specs.Blocks.{Block, isFree, total, tiled, granted, freed, liveCount}
 use Rattle.model.specs.Rules.{Rules}
 use Rattle.model.specs.Calls.{HeaderPlace, Store, blocks}
 use Rattle.model.proofs.Tests.{and-l, and-r, and-i}
-use Rattle.model.proofs.Blocks.{granted-fits, granted-total, granted-tiled, freed-total, freed-tiled, granted-live, granted-freed, starts, live-not-free}
+use Rattle.model.proofs.Blocks.{granted-fits, granted-total, granted-tiled, freed-total, freed-tiled, granted-live, granted-freed, granted-count, freed-count, free-fits, starts, live-not-free}
 
 pub record StoreLaws (K : Rules) {P : Type 0} (E : Store P) : Type 0 where
   -- a grant makes no run
@@ -24,6 +24,12 @@ pub record StoreLaws (K : Rules) {P : Type 0} (E : Store P) : Type 0 where
   -- a granted block is live, and its release undoes the grant
   pub grant-live : (n t : ℕ) (p : P) → 1 ≤ t → E .sound p ≡ true → E .fits n p ≡ true → E .live (E .place n p) (E .grant n t p) ≡ true
   pub grant-free : (n t : ℕ) (p : P) → 1 ≤ t → E .sound p ≡ true → E .fits n p ≡ true → E .free (E .place n p) (E .grant n t p) ≡ p
+
+-- what the wait bound asks of a count of live blocks: a grant makes one more, a release one less, and without any all is one free run
+pub record CountLaws (K : Rules) {P : Type 0} (E : Store P) (count : P → ℕ) : Type 0 where
+  pub grant-count : (n t : ℕ) (p : P) → 1 ≤ t → E .fits n p ≡ true → count (E .grant n t p) ≡ 1 + count p
+  pub free-count : (a : HeaderPlace) (p : P) → E .live a p ≡ true → 1 + count (E .free a p) ≡ count p
+  pub none-fits : (n : ℕ) (p : P) → 1 ≤ n → n ≤ K .long → E .sound p ≡ true → count p ≡ 0 → E .fits n p ≡ true
 
 -- ---- the block list
 
@@ -58,4 +64,12 @@ module _ (K : Rules) where
             close-blocks (freed (a .0) bs) (record { sums = freed-total (a .0) bs ∙ o .sums; tiling = freed-tiled (K .tasks) false (a .0) bs (o .tiling) });
         grant-live = λ n t bs t1 h f. granted-live (K .tasks) n t t1 false bs (open-blocks bs h .tiling) f;
         grant-free = λ n t bs t1 h f. granted-freed (K .tasks) n t t1 false bs (open-blocks bs h .tiling) f;
+      }
+
+  pub count-laws : CountLaws K (blocks K) liveCount
+  count-laws =
+      record {
+        grant-count = λ n t bs t1 f. granted-count n t t1 bs f;
+        free-count = λ a bs l. freed-count (a .0) bs l;
+        none-fits = λ n bs n1 nk h z. let o = open-blocks bs h in free-fits (K .tasks) n bs n1 (omega (arith, o .sums)) (o .tiling) z;
       }

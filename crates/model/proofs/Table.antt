@@ -2,21 +2,21 @@
 use Prim.Native.Nat.{ℕ}
 use mathlib.Core.Path.{_≡_, refl}
 use mathlib.Core.Bool.{Bool, true, false, _&&_}
-use mathlib.Core.List.{List, [], _∷_}
-use mathlib.Core.Option.{none, some}
+use mathlib.Core.List.{List, [], _∷_, _++_}
+use mathlib.Core.Option.{Option, none, some}
 use lib.ListN.{length, replicate}
 use lib.Dec.{ltb}
-use lib.IntN.{pos}
-use Rattle.model.specs.Limits.{forever, minus, e-ok, waiting, e-sys, inside-block}
-use Rattle.model.specs.Blocks.{Block, block, total, tiled, fits, firstFit, carve, granted, startsAt, holder, join, freed, sumFree, greatestFree}
-use Rattle.model.specs.Bytes.{blocksFrom, le32, header, overlay, written, mask, render, erase}
-use Rattle.model.specs.Waiting.{Entry, waits, remove, headTask, insert, blocked, leads, expired, remaining}
-use Rattle.model.specs.Rules.{queued, base}
+use lib.IntN.{ℤ, pos}
+use Rattle.model.specs.Limits.{most-tasks, forever, minus, e-ok, waiting, e-sys, inside-block}
+use Rattle.model.specs.Blocks.{Block, block, total, tiled, fits, firstFit, carve, granted, startsAt, holder, join, freed, liveCount, sumFree, greatestFree}
+use Rattle.model.specs.Bytes.{blocksOf, blocksFrom, le32, header, overlay, written, mask, render, erase}
+use Rattle.model.specs.Waiting.{Entry, waits, placeIn, remove, headTask, insert, blocked, leads, expired, remaining}
+use Rattle.model.specs.Rules.{Rules, queued, okLong, okSize, needOf, base}
 use Rattle.model.specs.Calls.{Request, Call, get, poll, cancel, tick, inquire, plain, because, leave, blocks, serve, headStuck, sound, tests, act}
-use Rattle.model.specs.Runs.{run, wakeCode, endCode, ticks, refuses, refusedBy}
+use Rattle.model.specs.Runs.{after, run, refuses, refusedBy, wakeCode, endCode, ticks, releases}
 use Rattle.model.specs.Places.{pad, used, allUnused, tidy, queueOf}
-use Rattle.model.specs.Pool.{Stored, stored, view, soundBy, performBy, isSound, perform, create}
-use Rattle.model.specs.Table.{linesFrom, stateFrom, playedAll, fresh, at, to-c, to-e, blocks-c, queue-e, table}
+use Rattle.model.specs.Pool.{Stored, stored, view, waiters, waitBound, soundBy, performBy, isSound, perform, create}
+use Rattle.model.specs.Table.{linesFrom, stateFrom, playedAll, fresh, wants, at, to-c, to-e, blocks-b, blocks-c, queue-e, table}
 
 -- ---- the table of document 01's examples
 
@@ -120,4 +120,70 @@ met =
       granted = refl;
       refused = refl;
       refused-spoiled = refl;
+    }
+
+-- ---- the wait bound: live blocks, places, and runs in which it is reached
+
+-- tasks 3 and 4 each wait for the whole pool, of which tasks 1 and 2 have a block each
+abbrev pub state-whole : Stored
+state-whole = after (perform base) state-c (wants 3 56 ∷ wants 4 56 ∷ [])
+
+-- calls with one successful release, and with two
+abbrev one-release : List Call
+one-release = at 8 ∷ at 8 ∷ poll 5 4 ∷ []
+
+abbrev pub two-releases : List Call
+two-releases = one-release ++ (at 28 ∷ wants 5 4 ∷ at 12 ∷ tick ∷ inquire ∷ cancel 5 ∷ [])
+
+-- the smallest request first: task 3 waits for the whole pool, of which task 1 has a block, and task 5 passes it
+abbrev by-size : ℕ → Rules
+by-size n = record { valid = okLong n; long = n; tasks = most-tasks; allowed = λ e. okSize n (e .size); need = needOf; rank = λ e. e .size }
+
+abbrev state-passed : Stored
+state-passed = made blocks-b (record { task = 3; size = 56; left = forever } ∷ [])
+
+-- the successful releases of a run, and the code with which the task t is woken
+abbrev heard : (ℕ → Rules) → ℕ → Stored → List Call → ℕ × Option ℤ
+heard R t p cs = (releases (run (perform R) p cs), endCode t (run (perform R) p cs))
+
+pub record Bounds : Type 0 where
+  pub live-e : liveCount (blocksOf (state-e .bytes)) ≡ 2
+  pub head-e : placeIn 3 (waiters state-e) ≡ 1
+  pub second-e : placeIn 4 (waiters state-e) ≡ 2
+  pub bound-head-e : waitBound state-e 3 ≡ 2
+  pub bound-e : waitBound state-e 4 ≡ 3
+  pub waits-e : waits 4 (waiters state-e) ≡ true
+  pub served-e : heard base 4 state-e (at 28 ∷ []) ≡ (1, some e-ok)
+  pub sound-whole : isSound base state-whole ≡ true
+  pub bound-head : waitBound state-whole 3 ≡ 2
+  pub head-not : heard base 3 state-whole one-release ≡ (1, none)
+  pub head-served : heard base 3 state-whole (one-release ++ (at 28 ∷ [])) ≡ (2, some e-ok)
+  pub bound-second : waitBound state-whole 4 ≡ 3
+  pub second-not : heard base 4 state-whole two-releases ≡ (2, none)
+  pub second-served : heard base 4 state-whole (two-releases ++ (at 8 ∷ [])) ≡ (3, some e-ok)
+  pub sound-passed : isSound by-size state-passed ≡ true
+  pub bound-passed : waitBound state-passed 3 ≡ 1
+  pub passed : heard by-size 3 state-passed (wants 5 4 ∷ at 8 ∷ []) ≡ (1, none)
+
+pub bounds : Bounds
+unfolding total tiled fits firstFit carve granted startsAt holder join freed liveCount sumFree greatestFree blocksFrom le32 header overlay written mask render erase waits placeIn remove headTask insert blocked leads expired remaining queued base leave serve headStuck sound tests act pad used allUnused tidy view soundBy performBy create stateFrom after run wakeCode endCode releases
+bounds =
+    record {
+      live-e = refl;
+      head-e = refl;
+      second-e = refl;
+      bound-head-e = refl;
+      bound-e = refl;
+      waits-e = refl;
+      served-e = refl;
+      sound-whole = refl;
+      bound-head = refl;
+      head-not = refl;
+      head-served = refl;
+      bound-second = refl;
+      second-not = refl;
+      second-served = refl;
+      sound-passed = refl;
+      bound-passed = refl;
+      passed = refl;
     }

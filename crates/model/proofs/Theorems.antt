@@ -1,32 +1,35 @@
 -- What is proved of the calls: first over any rules that meet the laws, then for the pool of document 01. Assumes nothing.
-use Prim.Native.Nat.{ℕ, _≤_}
-use mathlib.Core.Path.{_≡_, _∙_}
+use Prim.Native.Nat.{ℕ, _*_, _≤_}
+use mathlib.Core.Path.{_≡_, refl, _∙_}
 use mathlib.Core.Bool.{true, false}
 use mathlib.Core.Logic.{_↔_, _⊎_}
 use mathlib.Core.List.{List}
-use mathlib.Core.Option.{none, some}
+use mathlib.Core.Option.{Option, none, some}
 use native.Mathlib.Omega.{arith}
 use lib.ListN.{length}
 use lib.IntN.{pos}
-use Rattle.model.specs.Limits.{most-tasks, minus, e-ok, waiting, already-free}
+use Rattle.model.specs.Limits.{most-tasks, longest-pool, minus, e-ok, waiting, already-free}
 use Rattle.model.specs.Blocks.{Block}
-use Rattle.model.specs.Waiting.{Entry}
+use Rattle.model.specs.Waiting.{Entry, waits, entryIn}
 use Rattle.model.specs.Rules.{Rules, Laws, queued, base}
 use Rattle.model.specs.Calls.{BlockOffset, noPlace, Request, Call, get, release, Refusal, refuse, entryOf, blocks, isLive, step}
 use Rattle.model.specs.Refusals.{Refused}
-use Rattle.model.specs.Runs.{after, run, Spared, refuses, refusedBy, Others, Ranked}
+use Rattle.model.specs.Runs.{after, run, refuses, refusedBy, Spared, Unbroken, releases, Unpassed, Others, Ranked}
 use Rattle.model.specs.Bytes.{blocksOf, render}
 use Rattle.model.specs.Places.{entriesOf, queueOf}
-use Rattle.model.specs.Demands.{Seen, NoTrace, undo, Undone, Timeout, Untimed, OneHolder}
-use Rattle.model.specs.Pool.{Stored, Typed, view, waiters, rulesOf, isSound, perform, create}
+use Rattle.model.specs.Demands.{Seen, NoTrace, undo, Undone, Timeout, Untimed, ServedWithin, Reached, OneHolder}
+use Rattle.model.specs.Pool.{Stored, Typed, view, waiters, waitBound, rulesOf, isSound, perform, create}
+use Rattle.model.proofs.Tests.{clash}
 use Rattle.model.proofs.Bytes.{blocks-render, render-blocks}
 use Rattle.model.proofs.Places.{queued-live, used-pad, queue-entries}
 use Rattle.model.proofs.Waiting.{queued-length}
 use Rattle.model.proofs.Store.{open-blocks}
 use Rattle.model.proofs.Soundness.{open-sound}
+use Rattle.model.proofs.Fates.{none-away}
 use Rattle.model.proofs.Pool as P
 use Rattle.model.proofs.Pool.{open-stored}
-use Rattle.model.proofs.Base.{base-laws, base-long, base-one-rank}
+use Rattle.model.proofs.Base.{base-laws, base-long, base-one-rank, base-unpassed}
+use Rattle.model.proofs.Reached.{bound-reached}
 
 module _ (R : ℕ → Rules) (law : (n : ℕ) → Laws (R n)) (long-is : (n : ℕ) → R n .long ≡ n) where
   -- ---- a sound state stays sound
@@ -125,6 +128,15 @@ module _ (R : ℕ → Rules) (law : (n : ℕ) → Laws (R n)) (long-is : (n : �
       → Spared (f .task) (run (perform R) (perform R (get f) p .state) cs) → Untimed (perform R) waiters (perform R (get f) p .state) (f .task) cs
   unlimited p f cs h e z sp = P.perform-unlimited R law long-is p f cs h z sp e
 
+  -- ---- the wait bound, for every run from a sound state in which the task t waits with the entry e
+
+  -- With L live blocks and the task at place k of the queue, it is served at the latest in the (L + k - 1)-th successful release, if it is neither
+  -- cancelled nor timed out and nobody of better rank is granted or told to wait meanwhile.
+  pub wait-bound : (p : Stored) (t : ℕ) (e : Entry) (cs : List Call) → isSound R p ≡ true → entryIn t (waiters p) ≡ some e
+      → Unpassed (rulesOf R p .rank) t (rulesOf R p .rank e) (run (perform R) p cs) → Unbroken t (run (perform R) p cs)
+      → waitBound p t ≤ releases (run (perform R) p cs) → ServedWithin (perform R) p t (waitBound p t) cs
+  wait-bound p t e cs h here up u n = P.perform-bound R law long-is p t e cs h here up u n
+
 -- ---- the pool of document 01
 
 pub base-create-sound : (l : List ℕ) → base (length l) .valid ≡ true → isSound base (create base l .state) ≡ true
@@ -191,3 +203,16 @@ base-timeout = timeout base base-laws base-long
 pub base-unlimited : (p : Stored) (f : Request) (cs : List Call) → isSound base p ≡ true → f .limit ≡ minus 1 → perform base (get f) p .said .code ≡ waiting
     → Spared (f .task) (run (perform base) (perform base (get f) p .state) cs) → Untimed (perform base) waiters (perform base (get f) p .state) (f .task) cs
 base-unlimited = unlimited base base-laws base-long
+
+-- all are of one rank
+pub base-wait-bound : (p : Stored) (t : ℕ) (cs : List Call) → isSound base p ≡ true → waits t (waiters p) ≡ true → Unbroken t (run (perform base) p cs)
+    → waitBound p t ≤ releases (run (perform base) p cs) → ServedWithin (perform base) p t (waitBound p t) cs
+base-wait-bound p t cs h w u n = go (entryIn t (waiters p)) refl
+  where
+    go : (v : Option Entry) → entryIn t (waiters p) ≡ v → ServedWithin (perform base) p t (waitBound p t) cs
+    go none e = clash (waits t (waiters p)) w (none-away t (waiters p) e)
+    go (some x) e = wait-bound base base-laws base-long p t x cs h e (base-unpassed (length (p .bytes)) t x (run (perform base) p cs)) u n
+
+-- for every number of live blocks and every place there is a wait that lasts so long
+pub base-bound-reached : (live k : ℕ) → 1 ≤ live → 12 * live ≤ longest-pool → 1 ≤ k → k ≤ most-tasks → Reached live k
+base-bound-reached = bound-reached

@@ -8,7 +8,7 @@ use lib.ListN.{length}
 use lib.Dec.{leb, eqb}
 use borrow.Author.Tests.{leb-true, leb-false, eqb-true, eqb-false, le-leb, lt-leb, eq-eqb, ne-eqb}
 use Rattle.model.specs.Limits.{longest-left, forever}
-use Rattle.model.specs.Waiting.{Entry, waits, remove, insert, blocked, leads, okLeft, expires, aged, expired, remaining}
+use Rattle.model.specs.Waiting.{Entry, waits, placeIn, remove, headTask, insert, blocked, leads, okLeft, expires, aged, expired, remaining}
 use Rattle.model.specs.Rules.{Rules, Laws, okTask, okEntry, queued}
 use Rattle.model.proofs.Tests.{by, clash, and-l, and-r, and-i, or-f-l, or-f-r, or-f, or-t-r, not-t}
 
@@ -293,6 +293,13 @@ module _ (K : Rules) where
       let a = entry-asked K x (o .entry) in
       (a .task-least, a .task-most, lead-waits x q (o .lead), queued-distinct q (o .rest))
 
+  pub waits-least : (t : ℕ) (q : List Entry) → queued K q ≡ true → waits t q ≡ true → 1 ≤ t
+  unfolding waits
+  waits-least t [] o w = clash false w refl
+  waits-least t (x ∷ q) o w =
+      let u = open-queued K x q o in
+      by (eqb (x .task) t) (λ h. omega (arith, eqb-true (x .task) t h, entry-asked K x (u .entry) .task-least)) (λ h. waits-least t q (u .rest) (rw h at w))
+
   pub queued-length : (q : List Entry) → queued K q ≡ true → length q ≤ K .tasks
   queued-length q h = distinct-length (K .tasks) q (queued-distinct q h)
 
@@ -308,3 +315,8 @@ pub expired-count : (q : List Entry) → length (expired q) + length (remaining 
 unfolding expired remaining
 expired-count [] = refl
 expired-count (e ∷ q) = let ih = expired-count q in by (expires e) (λ h. rw h (omega (arith, ih))) (λ h. rw h (omega (arith, ih)))
+
+pub head-place : (t : ℕ) (q : List Entry) → headTask q ≡ t → waits t q ≡ true → placeIn t q ≡ 1
+unfolding headTask placeIn waits
+head-place t [] e w = clash false w refl
+head-place t (x ∷ q) e w = rw (eq-eqb (x .task) t e)

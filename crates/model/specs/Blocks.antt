@@ -82,6 +82,12 @@ unfoldable pub freed : ℕ → List Block → List Block
 freed p [] = []
 freed p (b ∷ bs) = cond (eqb p 0) (join (block (b .size) 0) bs) (join b (freed (p - b .size) bs))
 
+-- ---- how many blocks are live
+
+unfoldable pub liveCount : List Block → ℕ
+liveCount [] = 0
+liveCount (b ∷ bs) = cond (isFree b) 0 1 + liveCount bs
+
 -- ---- what inquire tells
 
 -- what a free run has for a task; nothing if the block is live

@@ -1,4 +1,4 @@
--- What demands 2 and 3 say of the calls, how long a wait with a time limit lasts, and what a refused release says of its offset.
+-- What demands 2 and 3 say of the calls, how long a wait lasts, and what a refused release says of its offset.
 use Prim.Native.Nat.{ℕ, _+_, _≤_, _<_}
 use mathlib.Core.Path.{_≡_}
 use mathlib.Core.Bool.{true, false, cond}
@@ -6,13 +6,13 @@ use mathlib.Core.List.{List, [], _∷_, _++_}
 use mathlib.Core.Option.{none, some}
 use lib.Dec.{leb}
 use Rattle.model.specs.Limits.{e-ok, e-rlwai, e-tmout}
-use Rattle.model.specs.Blocks.{Block, total}
-use Rattle.model.specs.Waiting.{Entry, waits}
-use Rattle.model.specs.Rules.{Rules}
-use Rattle.model.specs.Calls.{noOffset, Request, Call, get, release, cancel, tick, Reply, says, leaves, blocks, step}
-use Rattle.model.specs.Runs.{after, run, wakeCode, endCode, ticks, gets, refusals, winners}
+use Rattle.model.specs.Blocks.{Block, total, liveCount}
+use Rattle.model.specs.Waiting.{Entry, waits, placeIn}
+use Rattle.model.specs.Rules.{Rules, base}
+use Rattle.model.specs.Calls.{BlockOffset, noOffset, Request, Call, get, release, cancel, tick, Reply, says, leaves, blocks, step}
+use Rattle.model.specs.Runs.{after, run, wakeCode, endCode, ticks, releases, gets, refusals, winners}
 use Rattle.model.specs.Bytes.{blocksOf}
-use Rattle.model.specs.Pool.{Stored, view, rulesOf, perform}
+use Rattle.model.specs.Pool.{Stored, view, waiters, waitBound, rulesOf, isSound, perform}
 
 -- Demand 2: a call on bytes and places is told what the call on block list and entries is told, and leaves what that leaves.
 pub record Seen (R : ℕ → Rules) (c : Call) (p : Stored) : Type 0 where
@@ -48,6 +48,35 @@ pub record Timeout {S : Type 0} (step : Call → S → Reply S) (entries : S →
 pub record Untimed {S : Type 0} (step : Call → S → Reply S) (entries : S → List Entry) (s : S) (t : ℕ) (cs : List Call) : Type 0 where
   pub ends : endCode t (run step s cs) ≡ none
   pub waiting : waits t (entries (after step s cs)) ≡ true
+
+-- The wait bound: one of the calls cs, made from the state s, wakes the task t with code 0. None before it wakes that task, and fewer than n of those
+-- are successful releases: the task is served at the latest in the n-th.
+pub record ServedWithin {S : Type 0} (step : Call → S → Reply S) (s : S) (t n : ℕ) (cs : List Call) : Type 0 where
+  pub before : List Call
+  pub call : Call
+  pub rest : List Call
+  pub is : cs ≡ before ++ (call ∷ rest)
+  pub waiting : endCode t (run step s before) ≡ none
+  pub woken : wakeCode t (step call (after step s before) .said .woken) ≡ some e-ok
+  pub soon : releases (run step s before) < n
+
+-- It takes exactly n: calls that do not wake the task t, n - 1 of them successful releases, and then a release that wakes it with code 0.
+pub record ServedAt {S : Type 0} (step : Call → S → Reply S) (s : S) (t n : ℕ) : Type 0 where
+  pub before : List Call
+  pub last : BlockOffset
+  pub count : releases (run step s before) + 1 ≡ n
+  pub waiting : endCode t (run step s before) ≡ none
+  pub woken : wakeCode t (step (release last) (after step s before) .said .woken) ≡ some e-ok
+
+-- The bound is reached from a sound state of document 01's pool with so many live blocks and a task at the place k of the queue.
+pub record Reached (live k : ℕ) : Type 0 where
+  pub from : Stored
+  pub task : ℕ
+  pub good : isSound base from ≡ true
+  pub count : liveCount (blocksOf (from .bytes)) ≡ live
+  pub waiting : waits task (waiters from) ≡ true
+  pub place : placeIn task (waiters from) ≡ k
+  pub served : ServedAt (perform base) from task (waitBound from task)
 
 -- a block of the list, with its header at the place a, has the byte i among its bytes
 pub record HolderOf (i : ℕ) (bs : List Block) (a : ℕ) : Type 0 where

@@ -1,5 +1,5 @@
 -- The calls on a state as its caller keeps it, the pool's bytes and the queue's places: what the public functions promise.
-use Prim.Native.Nat.{ℕ, _<_}
+use Prim.Native.Nat.{ℕ, _+_, _-_, _<_}
 use mathlib.Core.Path.{_≡_}
 use mathlib.Core.Bool.{Bool, not, _&&_}
 use mathlib.Core.List.{List, [], _∷_}
@@ -8,9 +8,9 @@ use lib.ListN.{length, getD}
 pub use Rattle.model.specs.declared.Answer.{Answer}
 pub use Rattle.model.specs.declared.Totals.{Totals}
 use Rattle.model.specs.Limits.{most-tasks, e-ok, e-par}
-use Rattle.model.specs.Blocks.{Block, block}
+use Rattle.model.specs.Blocks.{Block, block, liveCount}
 use Rattle.model.specs.Bytes.{blocksOf, render, erase}
-use Rattle.model.specs.Waiting.{Entry}
+use Rattle.model.specs.Waiting.{Entry, placeIn}
 use Rattle.model.specs.Rules.{Rules, base}
 use Rattle.model.specs.Calls.{Call, inquire, noOffset, Said, Reply, State, state, says, plain, decide, deny, blocks, sound, verdict, act}
 use Rattle.model.specs.Places.{Queue, tidy, entriesOf, queueOf, wokenOf}
@@ -33,6 +33,10 @@ view p = state (blocksOf (p .bytes)) (entriesOf (p .queue))
 
 abbrev pub waiters : Stored → List Entry
 waiters p = entriesOf (p .queue)
+
+-- With L live blocks and the task t at place k of the queue: L + k - 1, the successful releases within which it is served.
+abbrev pub waitBound : Stored → ℕ → ℕ
+waitBound p t = liveCount (blocksOf (p .bytes)) + placeIn t (waiters p) - 1
 
 -- After a call, headers of the old block list are erased and those of the new one written: new headers stand in their places, swallowed ones are
 -- zero, every other byte is kept.

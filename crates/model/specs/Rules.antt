@@ -25,6 +25,7 @@ pub record Laws (K : Rules) : Type 0 where
   pub tasks-most : K .tasks ≤ most-tasks
   pub need-mod : (e : Entry) → K .allowed e ≡ true → K .need (e .size) % 4 ≡ 0
   pub need-least : (e : Entry) → K .allowed e ≡ true → 12 ≤ K .need (e .size)
+  pub need-most : K .valid ≡ true → (e : Entry) → K .allowed e ≡ true → K .need (e .size) ≤ K .long
   pub allowed-left : (l : ℕ) (e : Entry) → K .allowed (withLeft l e) ≡ K .allowed e
   pub rank-left : (l : ℕ) (e : Entry) → K .rank (withLeft l e) ≡ K .rank e
 

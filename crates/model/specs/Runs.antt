@@ -1,12 +1,12 @@
--- Runs: calls one after the other, each handed its state as the call before left it; how a wait ends in a run; and lists of gets.
+-- Runs: calls one after the other, each handed its state as the call before left it; what their answers say of a wait; and lists of gets.
 use Prim.Native.Nat.{ℕ, zero, suc, _+_}
 use mathlib.Core.Path.{_≡_}
-use mathlib.Core.Bool.{Bool, true, false, cond}
+use mathlib.Core.Bool.{Bool, true, false, not, cond, _&&_}
 use mathlib.Core.List.{List, [], _∷_}
 use mathlib.Core.Option.{Option, none, some}
-use lib.Dec.{eqb}
+use lib.Dec.{ltb, eqb}
 use lib.IntN.{ℤ, pos, negsuc}
-use Rattle.model.specs.Limits.{e-ok, e-rlwai}
+use Rattle.model.specs.Limits.{e-ok, e-rlwai, e-tmout}
 use Rattle.model.specs.Waiting.{Entry}
 use Rattle.model.specs.Calls.{Woken, Request, Call, get, release, cancel, tick, inquire, Said, Refusal, Reply, entryOf}
 
@@ -25,6 +25,26 @@ module _ {S : Type 0} (step : Call → S → Reply S) where
   run s [] = []
   run s (c ∷ cs) = record { call = c; said = step c s .said } ∷ run (step c s .state) cs
 
+-- ---- codes
+
+abbrev pub isZero : ℤ → Bool
+isZero (pos n) = eqb n 0
+isZero (negsuc n) = false
+
+-- the code of a refusal: neither 0 nor 1
+unfoldable pub refuses : ℤ → Bool
+refuses (pos zero) = false
+refuses (pos (suc zero)) = false
+refuses (pos (suc (suc n))) = true
+refuses (negsuc n) = true
+
+-- what was told, if it is a refusal
+abbrev pub refusing : Refusal → Option Refusal
+refusing x = cond (refuses (x .code)) (some x) none
+
+abbrev pub refusedBy : Said → Option Refusal
+refusedBy a = refusing (record { code = a .code; reason = a .reason; place = a .place })
+
 -- ---- how a wait ends in a run
 
 -- the code with which the task t is woken, if it is
@@ -41,10 +61,19 @@ unfoldable pub endCode : ℕ → List Turn → Option ℤ
 endCode t [] = none
 endCode t (x ∷ l) = firstOf (wakeCode t (x .said .woken)) (endCode t l)
 
+-- the wait of the task t does not end with the code c
+abbrev pub EndsNot : ℤ → ℕ → List Turn → Type 0
+EndsNot c t l = endCode t l ≡ some c → ⊥
+
 -- the wait of the task t is ended neither by a block nor by a cancellation
 pub record Spared (t : ℕ) (l : List Turn) : Type 0 where
-  pub unserved : endCode t l ≡ some e-ok → ⊥
-  pub uncancelled : endCode t l ≡ some e-rlwai → ⊥
+  pub unserved : EndsNot e-ok t l
+  pub uncancelled : EndsNot e-rlwai t l
+
+-- the wait of the task t is ended neither by a cancellation nor by its time
+pub record Unbroken (t : ℕ) (l : List Turn) : Type 0 where
+  pub uncancelled : EndsNot e-rlwai t l
+  pub untimed : EndsNot e-tmout t l
 
 -- the ticks that pass with a call
 abbrev pub passes : Call → ℕ
@@ -58,34 +87,45 @@ unfoldable pub ticks : List Call → ℕ
 ticks [] = 0
 ticks (c ∷ cs) = passes c + ticks cs
 
+abbrev pub isRelease : Call → Bool
+isRelease (get r) = false
+isRelease (release o) = true
+isRelease (cancel t) = false
+isRelease tick = false
+isRelease inquire = false
+
+-- a turn's successful releases, one or none, and a run's
+abbrev pub released : Turn → ℕ
+released x = cond (isRelease (x .call) && isZero (x .said .code)) 1 0
+
+unfoldable pub releases : List Turn → ℕ
+releases [] = 0
+releases (x ∷ l) = released x + releases l
+
+module _ (rank : Entry → ℕ) where
+  -- a request of better rank than r that was granted or told to wait
+  abbrev pub outranks : ℕ → Said → Call → Bool
+  outranks r a (get q) = not (refuses (a .code)) && ltb (rank (entryOf q)) r
+  outranks r a (release o) = false
+  outranks r a (cancel t) = false
+  outranks r a tick = false
+  outranks r a inquire = false
+
+  -- no such request as long as the task t waits
+  unfoldable pub Unpassed : ℕ → ℕ → List Turn → Type 0
+  Unpassed t r [] = Unit {0}
+  Unpassed t r (x ∷ l) = (outranks r (x .said) (x .call) ≡ false) × (wakeCode t (x .said .woken) ≡ none → Unpassed t r l)
+
 -- ---- lists of gets
 
 unfoldable pub gets : List Request → List Call
 gets [] = []
 gets (r ∷ rs) = get r ∷ gets rs
 
--- the code of a refusal: neither 0 nor 1
-unfoldable pub refuses : ℤ → Bool
-refuses (pos zero) = false
-refuses (pos (suc zero)) = false
-refuses (pos (suc (suc n))) = true
-refuses (negsuc n) = true
-
--- what was told, if it is a refusal
-abbrev pub refusing : Refusal → Option Refusal
-refusing x = cond (refuses (x .code)) (some x) none
-
-abbrev pub refusedBy : Said → Option Refusal
-refusedBy a = refusing (record { code = a .code; reason = a .reason; place = a .place })
-
 -- which calls of a run were refused, and how
 unfoldable pub refusals : List Turn → List (Option Refusal)
 refusals [] = []
 refusals (x ∷ l) = refusedBy (x .said) ∷ refusals l
-
-abbrev pub isZero : ℤ → Bool
-isZero (pos n) = eqb n 0
-isZero (negsuc n) = false
 
 -- the task of a get
 abbrev pub asker : Call → ℕ

@@ -1,7 +1,8 @@
 -- The waiting queue as the list of its entries: who waits, who joins, who leaves, and a tick.
-use Prim.Native.Nat.{ℕ, _-_}
+use Prim.Native.Nat.{ℕ, _+_, _-_}
 use mathlib.Core.Bool.{Bool, true, false, not, cond, _&&_, _||_}
 use mathlib.Core.List.{List, [], _∷_}
+use mathlib.Core.Option.{Option, none, some}
 use lib.Dec.{leb, eqb}
 use Rattle.model.specs.Limits.{longest-left, forever}
 pub use Rattle.model.specs.declared.Entry.{Entry}
@@ -10,6 +11,16 @@ pub use Rattle.model.specs.declared.Entry.{Entry}
 unfoldable pub waits : ℕ → List Entry → Bool
 waits t [] = false
 waits t (e ∷ q) = eqb (e .task) t || waits t q
+
+-- the entry of the task t, if it waits
+unfoldable pub entryIn : ℕ → List Entry → Option Entry
+entryIn t [] = none
+entryIn t (e ∷ q) = cond (eqb (e .task) t) (some e) (entryIn t q)
+
+-- the place in the queue of the task t, if it waits; the head's is 1
+unfoldable pub placeIn : ℕ → List Entry → ℕ
+placeIn t [] = 0
+placeIn t (e ∷ q) = cond (eqb (e .task) t) 1 (1 + placeIn t q)
 
 -- the queue without the entry of the task t
 unfoldable pub remove : ℕ → List Entry → List Entry

@@ -1,5 +1,5 @@
--- Demands 1 to 3 and timeouts about what the contracts of the calls cite: `created`, `called` and `inquired`. Assumes nothing.
-use Prim.Native.Nat.{ℕ, _≤_}
+-- Demands 1 to 3, timeouts and the wait bound about what the contracts of the calls cite: `created`, `called` and `inquired`. Assumes nothing.
+use Prim.Native.Nat.{ℕ, _+_, _-_, _≤_}
 use mathlib.Core.Path.{_≡_, refl, sym, ap, _∙_}
 use mathlib.Core.Logic.{_↔_, _⊎_}
 use mathlib.Core.Bool.{true, false, cond}
@@ -14,21 +14,22 @@ use Rattle.model.specs.declared.BlockOffset.{BlockOffset}
 use Rattle.model.specs.declared.Queue.{Queue}
 use Rattle.model.specs.declared.Answer.{Answer}
 use Rattle.model.specs.Limits.{most-tasks, minus, e-ok, waiting, e-sys, e-par, e-id, e-rlwai, e-tmout, already-free}
-use Rattle.model.specs.Blocks.{block, sumFree, greatestFree}
+use Rattle.model.specs.Blocks.{block, liveCount, sumFree, greatestFree}
 use Rattle.model.specs.Bytes.{blocksOf, render}
-use Rattle.model.specs.Waiting.{waits, headTask}
+use Rattle.model.specs.Waiting.{waits, placeIn, headTask}
 use Rattle.model.specs.Rules.{Rules, okTask, okLong, base}
 use Rattle.model.specs.Calls.{noOffset, noPlace, Request, Call, get, release, cancel, tick, inquire, Reply, Refusal, plain, leaves, blocks, sound, isLive, tests, act, step}
 use Rattle.model.specs.Refusals.{Refused, get-id}
-use Rattle.model.specs.Runs.{after, run, wakeCode, endCode, Spared, ticks, gets, refuses, refusals, winners, Others}
+use Rattle.model.specs.Runs.{after, run, refuses, wakeCode, endCode, Spared, Unbroken, ticks, releases, gets, refusals, winners, Others}
 use Rattle.model.specs.Places.{tidy, entriesOf, queueOf, wokenOf}
 use Rattle.model.specs.Pool.{Stored, stored, Typed, view, waiters, settled, soundBy, isSound, perform, create, Result, result, answered, created, called, inquired, totals}
-use Rattle.model.specs.Demands.{NoTrace, undo, Undone, Timeout, OneHolder}
+use Rattle.model.specs.Demands.{NoTrace, undo, Undone, Timeout, ServedWithin, OneHolder}
 use Rattle.model.proofs.Tests.{by, and-l}
+use Rattle.model.proofs.Waiting.{waits-least, head-place}
 use Rattle.model.proofs.Pool.{by-unsound, by-done}
-use Rattle.model.proofs.Timeouts.{wake-pad}
-use Rattle.model.proofs.Theorems.{base-call-sound, base-run-sound, base-refusal-keeps, base-refusal-when, base-release-refused-when, base-done-no-reason, base-release-refused-live, base-release-place, base-call-seen, base-cancel-no-trace, base-release-undoes, base-timeout, base-unlimited}
-pub use Rattle.model.proofs.Theorems.{base-blocks-of-render, base-render-of-blocks, base-entries-of-queue, base-queue-of-entries, base-woken-fit}
+use Rattle.model.proofs.Fates.{wake-pad}
+use Rattle.model.proofs.Theorems.{base-call-sound, base-run-sound, base-refusal-keeps, base-refusal-when, base-release-refused-when, base-done-no-reason, base-release-refused-live, base-release-place, base-call-seen, base-cancel-no-trace, base-release-undoes, base-timeout, base-unlimited, base-wait-bound}
+pub use Rattle.model.proofs.Theorems.{base-blocks-of-render, base-render-of-blocks, base-entries-of-queue, base-queue-of-entries, base-woken-fit, base-bound-reached}
 use Rattle.pool.specs.Steps.{refusal, refusedIn}
 use Rattle.pool.proofs.Inspecting.{State as Parts, open-state, called-refused, called-done, kept-bytes, kept-queue}
 
@@ -202,3 +203,30 @@ module _ (l : List ℕ) (q : Queue) (h : isSound base (stored l q) ≡ true) (f 
 
       pub next-tick-ends : ticks cs ≡ n → waits (f .task) (entriesOf (called tick (later .bytes) (later .queue) .answer .queue)) ≡ false
       next-tick-ends k = timed .gone k
+
+-- ---- the wait bound: the task t waits, and a run follows that neither cancels its wait nor has it time out
+
+module _ (l : List ℕ) (q : Queue) (h : isSound base (stored l q) ≡ true) (t : ℕ) (w : waits t (entriesOf q) ≡ true) (cs : List Call) where
+  -- the successful releases of the run
+  abbrev made : ℕ
+  made = releases (run (perform base) (stored l q) cs)
+
+  -- with L live blocks and the task at place k of the queue, it is served at the latest in the (L + k - 1)-th
+  pub wait-served : Unbroken t (run (perform base) (stored l q) cs) → liveCount (blocksOf l) + placeIn t (entriesOf q) - 1 ≤ made
+      → ServedWithin (perform base) (stored l q) t (liveCount (blocksOf l) + placeIn t (entriesOf q) - 1) cs
+  wait-served u n = base-wait-bound (stored l q) t cs h w u n
+
+  -- the head in the L-th
+  pub head-served : headTask (entriesOf q) ≡ t → Unbroken t (run (perform base) (stored l q) cs) → liveCount (blocksOf l) ≤ made
+      → ServedWithin (perform base) (stored l q) t (liveCount (blocksOf l)) cs
+  head-served e u =
+      let bound : liveCount (blocksOf l) + placeIn t (entriesOf q) - 1 ≡ liveCount (blocksOf l) = omega (arith, head-place t (entriesOf q) e w) in
+      rw bound at (wait-served u)
+
+  -- that call's answer has the task with code 0 among the woken
+  pub served-answer : (n : ℕ) (s : ServedWithin (perform base) (stored l q) t n cs)
+      → wakeCode t (called (s .call) (after (perform base) (stored l q) (s .before) .bytes) (after (perform base) (stored l q) (s .before) .queue) .answer .woken) ≡ some e-ok
+  served-answer n s =
+      let p = after (perform base) (stored l q) (s .before) in
+      let least = waits-least (base (length l)) t (entriesOf q) (open-state l (q .entries) h .queue) w in
+      wake-pad t most-tasks (perform base (s .call) p .said .woken) least (base-woken-fit (s .call) p (base-run-sound (stored l q) (s .before) h)) ∙ s .woken
