@@ -2,31 +2,10 @@
 
 mod common;
 
-use common::{answer, blocks, refused, times_left, waiting, woke};
+use common::{
+    after_b, after_c, after_e, answer, blocks, create, refused, times_left, waiting, woke,
+};
 use second::pool::{Inquiry, Pool, FOREVER};
-
-fn create(len: u32) -> Pool {
-    Pool::create(len).expect("the length is allowed")
-}
-
-fn after_b() -> Pool {
-    let mut pool = create(64);
-    pool.get(1, 10, FOREVER);
-    pool
-}
-
-fn after_c() -> Pool {
-    let mut pool = after_b();
-    pool.get(2, 20, FOREVER);
-    pool
-}
-
-fn after_e() -> Pool {
-    let mut pool = after_c();
-    pool.get(3, 12, FOREVER);
-    pool.get(4, 4, FOREVER);
-    pool
-}
 
 #[test]
 fn example_a() {

@@ -2,8 +2,7 @@
 
 mod common;
 
-use common::{answer, random_state, refused, times_left, waiting, woke};
-use second::deal::deal;
+use common::{answer, dealt_logs, logs_with_ticks, refused, times_left, waiting, woke};
 use second::log::Record;
 use second::pool::{Pool, FOREVER};
 use second::replay::{Replay, Step};
@@ -167,19 +166,6 @@ fn calls_between_the_ticks_take_no_time() {
     assert_eq!(pool.tick(), woke(&[(2, -50, 0)]));
 }
 
-/// A log with many ticks among records of every kind.
-fn log_with_ticks(index: u64) -> Vec<u8> {
-    let mut dealer = random_state(31, index);
-    for _ in 0..80 {
-        if dealer.rng.chance(30) {
-            dealer.tick();
-        } else {
-            dealer.put_any();
-        }
-    }
-    dealer.log
-}
-
 /// True if a wait has had no more ticks than its limit, or has none.
 fn is_in_time(wait: &Wait) -> bool {
     wait.limit == FOREVER || i64::from(wait.ticks) <= i64::from(wait.limit)
@@ -208,8 +194,8 @@ fn expired_waits(log: &[u8]) -> Vec<Wait> {
 
 #[test]
 fn every_wait_ends_in_its_tick() {
-    let expired: Vec<Wait> = (0..1_500)
-        .flat_map(|index| expired_waits(&log_with_ticks(index)))
+    let expired: Vec<Wait> = logs_with_ticks()
+        .flat_map(|log| expired_waits(&log))
         .collect();
     for limit in 1..=4 {
         let ended = expired.iter().filter(|wait| wait.limit == limit).count();
@@ -222,8 +208,7 @@ fn every_wait_ends_in_its_tick() {
 
 #[test]
 fn every_wait_of_a_dealt_log_ends_in_its_tick() {
-    let logs = (0..300).map(|index| deal(32, index));
-    let expired: usize = logs.map(|log| expired_waits(&log).len()).sum();
+    let expired: usize = dealt_logs().map(|log| expired_waits(&log).len()).sum();
     assert!(expired > 500, "{expired}");
 }
 

@@ -1,6 +1,6 @@
 -- The wait bound is reached for every number of live blocks and every place in the queue: in a full pool that each waiting task asks for whole. Assumes nothing.
 use Prim.Native.Nat.{ℕ, zero, suc, _+_, _-_, _*_, _%_, _≤_, _<_}
-use mathlib.Core.Path.{_≡_, refl, sym, ap, _∙_}
+use mathlib.Core.Path.{_≡_, refl, sym, ap, subst, _∙_}
 use mathlib.Core.Bool.{true, false, cond}
 use mathlib.Core.List.{List, [], _∷_}
 use mathlib.Core.Option.{none, some}
@@ -166,15 +166,15 @@ module _ (N : ℕ) (four : N % 4 ≡ 0) (least : 12 ≤ N) where
   first-phase : (n k m c : ℕ) (x : Stored) → N ≡ m + 12 * suc n → c ≡ n + suc k → Shown x (state (behind m (suc n)) (askers 1 (suc k))) → ServedAt (perform base) x (1 + k) c
   unfolding fits
   first-phase zero k m c x e d g =
-      let z : c ≡ suc k = omega (arith, d) in
-      rw z (second-phase k 1 (1 + k) m x (behind m 1) (omega arith) refl g (behind-live m 0) (behind-freed m 0 ∙ ap (λ (y : ℕ). block y 0 ∷ []) (omega (arith, e))))
+      let whole : freed m (behind m 1) ≡ block N 0 ∷ [] = behind-freed m 0 ∙ ap (λ (y : ℕ). block y 0 ∷ []) (omega (arith, e)) in
+      subst (λ (y : ℕ). ServedAt (perform base) x (1 + k) y) (omega (arith, d)) (second-phase k 1 (1 + k) m x (behind m 1) (omega arith) refl g (behind-live m 0) whole)
   first-phase (suc n) k m c x e d g =
       let bs : List Block = block (m + 12) 0 ∷ full (suc n) in
       let q = askers 1 (suc k) in
-      let z : c ≡ suc (n + suc k) = omega (arith, d) in
       let f : fits N bs ≡ false = rw (lt-leb N (m + 12) (omega (arith, e))) (full-is N n .3) in
       let b : behind (m + 12) (suc n) ≡ bs = rw (ne-eqb (m + 12) 0 (λ y. omega arith)) in
-      rw z (first (1 + k) m x (state (behind m (suc (suc n))) q) g (behind-live m (suc n)) (record { woken = []; state = state bs q })
+      subst (λ (y : ℕ). ServedAt (perform base) x (1 + k) y) (omega (arith, d))
+      (first (1 + k) m x (state (behind m (suc (suc n))) q) g (behind-live m (suc n)) (record { woken = []; state = state bs q })
       (rw (behind-freed m (suc n)) (serve-stuck K B bs q (askers-stuck bs 1 (suc k) f))) (n + suc k) (wake-none (1 + k))
       (λ y h. first-phase n k (m + 12) (n + suc k) y (omega (arith, e)) refl (rw b h)))
 

@@ -125,14 +125,14 @@ met =
 -- ---- the wait bound: live blocks, places, and runs in which it is reached
 
 -- tasks 3 and 4 each wait for the whole pool, of which tasks 1 and 2 have a block each
-abbrev pub state-whole : Stored
+abbrev state-whole : Stored
 state-whole = after (perform base) state-c (wants 3 56 ∷ wants 4 56 ∷ [])
 
 -- calls with one successful release, and with two
 abbrev one-release : List Call
 one-release = at 8 ∷ at 8 ∷ poll 5 4 ∷ []
 
-abbrev pub two-releases : List Call
+abbrev two-releases : List Call
 two-releases = one-release ++ (at 28 ∷ wants 5 4 ∷ at 12 ∷ tick ∷ inquire ∷ cancel 5 ∷ [])
 
 -- the smallest request first: task 3 waits for the whole pool, of which task 1 has a block, and task 5 passes it

@@ -1,9 +1,37 @@
 //! Shared by several test files; each uses a part of it.
 #![allow(dead_code)]
 
+use second::deal::deal;
 use second::dealer::Dealer;
-use second::pool::{Answer, Pool, Woken};
+use second::pool::{Answer, Pool, Woken, FOREVER};
 use second::rng::Rng;
+
+/// A pool of `len` bytes, an allowed length.
+pub fn create(len: u32) -> Pool {
+    Pool::create(len).expect("the length is allowed")
+}
+
+/// The pool of the specification after its example b.
+pub fn after_b() -> Pool {
+    let mut pool = create(64);
+    pool.get(1, 10, FOREVER);
+    pool
+}
+
+/// The pool after example c.
+pub fn after_c() -> Pool {
+    let mut pool = after_b();
+    pool.get(2, 20, FOREVER);
+    pool
+}
+
+/// The pool after example e.
+pub fn after_e() -> Pool {
+    let mut pool = after_c();
+    pool.get(3, 12, FOREVER);
+    pool.get(4, 4, FOREVER);
+    pool
+}
 
 /// Length and owner of each run in order, owner 0 for a free run.
 pub fn blocks(pool: &Pool) -> Vec<(u32, u32)> {
@@ -66,4 +94,27 @@ pub fn random_state(seed: u64, index: u64) -> Dealer {
     let mut dealer = Dealer::new(rng, len);
     dealer.put_many(count);
     dealer
+}
+
+/// A log with many ticks among records of every kind.
+fn log_with_ticks(index: u64) -> Vec<u8> {
+    let mut dealer = random_state(31, index);
+    for _ in 0..80 {
+        if dealer.rng.chance(30) {
+            dealer.tick();
+        } else {
+            dealer.put_any();
+        }
+    }
+    dealer.log
+}
+
+/// Logs with many ticks, on pools of 12 to 2,400 bytes.
+pub fn logs_with_ticks() -> impl Iterator<Item = Vec<u8>> {
+    (0..1_500).map(log_with_ticks)
+}
+
+/// Dealt logs of every shape.
+pub fn dealt_logs() -> impl Iterator<Item = Vec<u8>> {
+    (0..300).map(|index| deal(32, index))
 }

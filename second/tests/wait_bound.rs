@@ -1,0 +1,291 @@
+//! How long a wait can last: with L live blocks, the task at place k of the
+//! queue is served in or before the successful release L + k - 1 from then on,
+//! unless its wait is cancelled or expires.
+
+mod common;
+
+use std::collections::{BTreeMap, BTreeSet};
+
+use common::{after_e, answer, blocks, create, dealt_logs, logs_with_ticks, waiting, woke};
+use second::log::Record;
+use second::pool::{Answer, Pool, Woken, FOREVER, MAX_TASK};
+use second::replay::{apply, Replay, Step};
+
+/// Each waiting task, head first, and its bound L + k - 1.
+fn bounds(pool: &Pool) -> Vec<(u32, usize)> {
+    let live = pool.runs().live().count();
+    let places = (1..).zip(waiting(pool));
+    places.map(|(k, task)| (task, live + k - 1)).collect()
+}
+
+/// The last release of a run in which a wait may be served.
+#[derive(Clone, Copy, Debug, PartialEq, Eq)]
+struct Deadline {
+    /// Number of the release, successful ones counted from 1.
+    release: usize,
+    /// The bound at the first point that gave this deadline.
+    bound: usize,
+}
+
+/// A wait that ended with code 0.
+#[derive(Clone, Copy, Debug, PartialEq, Eq)]
+struct Served {
+    deadline: Deadline,
+    /// Successful releases of the run when the wait ended.
+    releases: usize,
+}
+
+impl Served {
+    fn is_at_deadline(&self) -> bool {
+        self.releases == self.deadline.release
+    }
+}
+
+/// Follows the waits of a run and checks them against their deadlines. The
+/// deadline of a wait is the least that any point of the run so far has given.
+#[derive(Default)]
+struct Observer {
+    /// Successful releases so far.
+    releases: usize,
+    /// Deadlines of the waiting tasks.
+    deadlines: BTreeMap<u32, Deadline>,
+    served: Vec<Served>,
+}
+
+impl Observer {
+    /// Starts with a pool in any state.
+    fn new(pool: &Pool) -> Observer {
+        let mut observer = Observer::default();
+        observer.note(pool);
+        observer
+    }
+
+    /// Takes the next record and its answer, and the pool after it.
+    fn follow(&mut self, record: Record, answer: &Answer, pool: &Pool) {
+        if matches!(record, Record::Release { .. }) && answer.code == 0 {
+            self.releases += 1;
+        }
+        for &woken in &answer.woken {
+            self.end(woken);
+        }
+        self.note(pool);
+    }
+
+    /// Ends a wait. It must not be served after its deadline; with another code
+    /// it is dropped.
+    fn end(&mut self, Woken { task, code, .. }: Woken) {
+        let deadline = self.deadlines.remove(&task);
+        let deadline = deadline.expect("a woken task has waited");
+        if code == 0 {
+            let releases = self.releases;
+            assert!(
+                releases <= deadline.release,
+                "task {task} is served at {releases}, {deadline:?}"
+            );
+            self.served.push(Served { deadline, releases });
+        }
+    }
+
+    /// Notes the bounds of all waits, none of which may have come to its
+    /// deadline. A wait must not end without being woken.
+    fn note(&mut self, pool: &Pool) {
+        let releases = self.releases;
+        for (task, bound) in bounds(pool) {
+            let release = releases + bound;
+            let noted = Deadline { release, bound };
+            let deadline = self.deadlines.entry(task).or_insert(noted);
+            if noted.release < deadline.release {
+                *deadline = noted;
+            }
+            assert!(
+                releases < deadline.release,
+                "task {task} waits at {releases}, {deadline:?}"
+            );
+        }
+        assert_eq!(self.deadlines.len(), pool.queue().len());
+    }
+}
+
+/// A wait of this bound at the start of a run, served after so many releases.
+fn served(bound: usize, releases: usize) -> Served {
+    let deadline = Deadline {
+        release: bound,
+        bound,
+    };
+    Served { deadline, releases }
+}
+
+/// Makes the call of a record, and the observer follows it.
+fn call(pool: &mut Pool, observer: &mut Observer, record: Record) -> Answer {
+    let answer = apply(pool, record);
+    observer.follow(record, &answer, pool);
+    answer
+}
+
+/// Counts of the served waits of several runs.
+#[derive(Debug, Default)]
+struct Tally {
+    served: usize,
+    at_deadline: usize,
+    /// Those at a deadline that a bound of 2 or more gave.
+    after_several: usize,
+    /// Lengths of the pools in which a wait was served.
+    lengths: BTreeSet<u32>,
+}
+
+impl Tally {
+    fn add(&mut self, served: &[Served], len: u32) {
+        let at_deadline = || served.iter().filter(|served| served.is_at_deadline());
+        let several = at_deadline().filter(|served| served.deadline.bound >= 2);
+        self.served += served.len();
+        self.at_deadline += at_deadline().count();
+        self.after_several += several.count();
+        if !served.is_empty() {
+            self.lengths.insert(len);
+        }
+    }
+
+    /// Checks every wait of a log, if it can be started.
+    fn add_log(&mut self, log: &[u8]) {
+        let Ok(mut replay) = Replay::start(log) else {
+            return;
+        };
+        let mut observer = Observer::new(replay.pool());
+        while let Step::Done(record, answer) = replay.step() {
+            observer.follow(record, &answer, replay.pool());
+        }
+        self.add(&observer.served, replay.pool().len());
+    }
+}
+
+/// Checks every wait of several logs.
+fn tally(logs: impl Iterator<Item = Vec<u8>>) -> Tally {
+    let mut tally = Tally::default();
+    logs.for_each(|log| tally.add_log(&log));
+    tally
+}
+
+#[test]
+fn every_wait_is_served_within_its_bound() {
+    let tally = tally(logs_with_ticks());
+    assert!(tally.served > 17_000, "{tally:?}");
+    assert!(tally.at_deadline > 7_500, "{tally:?}");
+    assert!(tally.after_several > 5_000, "{tally:?}");
+    assert!(tally.lengths.len() > 350, "{tally:?}");
+}
+
+#[test]
+fn every_wait_of_a_dealt_log_is_served_within_its_bound() {
+    let tally = tally(dealt_logs());
+    assert!(tally.served > 11_000, "{tally:?}");
+    assert!(tally.at_deadline > 550, "{tally:?}");
+    assert!(tally.after_several > 350, "{tally:?}");
+    assert!(tally.lengths.len() > 130, "{tally:?}");
+}
+
+/// The task that joins at a place of the queue, the head being at 1. No task has
+/// the number of its place.
+fn task_at(place: u32) -> u32 {
+    MAX_TASK + 1 - place
+}
+
+/// A pool that `live` blocks of 12 bytes fill, the last one larger by `rest`,
+/// and in which as many tasks as `waiters` wait for the whole pool.
+fn filled(live: u32, rest: u32, waiters: u32) -> Pool {
+    let mut pool = create(12 * live + rest);
+    for block in 1..=live {
+        let size = if block == live { 4 + rest } else { 4 };
+        assert_eq!(pool.get(1, size, FOREVER), answer(0, 12 * block - 4));
+    }
+    let whole = pool.max_size();
+    for place in 1..=waiters {
+        assert_eq!(pool.get(task_at(place), whole, FOREVER), answer(1, 0));
+    }
+    pool
+}
+
+/// Releases the blocks from the front, then the one at 8 again and again. The
+/// release `live` serves the head, each one after it the next waiter.
+fn assert_bound_is_reached(live: u32, rest: u32, place: u32) {
+    let mut pool = filled(live, rest, place);
+    assert_eq!(pool.runs().free().count(), 0);
+    let mut observer = Observer::new(&pool);
+    let (last, mut expected) = (live + place - 1, Vec::new());
+    for release in 1..=last {
+        let offset = if release <= live { 12 * release - 4 } else { 8 };
+        let answer = call(&mut pool, &mut observer, Record::Release { offset });
+        if release < live {
+            assert_eq!(answer, woke(&[]), "release {release} of {last}");
+        } else {
+            let task = task_at(release - live + 1);
+            assert_eq!(answer, woke(&[(task, 0, 8)]), "release {release} of {last}");
+            expected.push(served(release as usize, release as usize));
+        }
+    }
+    assert_eq!(waiting(&pool), []);
+    assert_eq!(observer.served, expected);
+}
+
+#[test]
+fn the_bound_is_reached_exactly() {
+    for live in 1..=20 {
+        for place in 1..=MAX_TASK {
+            for rest in [0, 4, 8] {
+                assert_bound_is_reached(live, rest, place);
+            }
+        }
+    }
+}
+
+/// All others ask for less than the head and would fit before it.
+#[test]
+fn smaller_requests_do_not_delay_the_head() {
+    for live in 2..=20 {
+        let mut pool = filled(live, 0, 1);
+        for place in 2..=MAX_TASK {
+            assert_eq!(pool.get(task_at(place), 4, FOREVER), answer(1, 0));
+        }
+        let mut observer = Observer::new(&pool);
+        for release in 1..=live {
+            let offset = 12 * release - 4;
+            call(&mut pool, &mut observer, Record::Release { offset });
+            assert_eq!(waiting(&pool).contains(&task_at(1)), release < live);
+        }
+        let bound = live as usize;
+        assert_eq!(observer.served, [served(bound, bound)]);
+    }
+}
+
+/// A call after example e, whose tasks 3 and 4 have the bounds 2 and 3. Answers
+/// what it answered, the blocks after it and the waits that it served.
+fn call_after_e(record: Record) -> (Answer, Vec<(u32, u32)>, Vec<Served>) {
+    let mut pool = after_e();
+    assert_eq!(pool.runs().live().count(), 2);
+    assert_eq!(bounds(&pool), [(3, 2), (4, 3)]);
+    let mut observer = Observer::new(&pool);
+    let answer = call(&mut pool, &mut observer, record);
+    assert_eq!(waiting(&pool), []);
+    (answer, blocks(&pool), observer.served)
+}
+
+/// The first is example h.
+#[test]
+fn a_release_after_example_e_serves_both() {
+    let both = vec![served(2, 1), served(3, 1)];
+    let release = |offset| call_after_e(Record::Release { offset });
+    let answer = woke(&[(3, 0, 8), (4, 0, 56)]);
+    let after = vec![(20, 3), (28, 2), (16, 4)];
+    assert_eq!(release(8), (answer, after, both.clone()));
+    let answer = woke(&[(3, 0, 28), (4, 0, 48)]);
+    let after = vec![(20, 1), (20, 3), (12, 4), (12, 0)];
+    assert_eq!(release(28), (answer, after, both));
+}
+
+/// Example g: task 4 is served without a release.
+#[test]
+fn a_cancel_after_example_e_serves_the_second() {
+    let answer = woke(&[(3, -49, 0), (4, 0, 56)]);
+    let after = vec![(20, 1), (28, 2), (16, 4)];
+    let expected = (answer, after, vec![served(3, 0)]);
+    assert_eq!(call_after_e(Record::Cancel { task: 3 }), expected);
+}
