@@ -10,10 +10,10 @@ use borrow.Author.Tests.{ltb-true}
 use Rattle.model.specs.Limits.{minus}
 use Rattle.model.specs.Rules.{base}
 use Rattle.model.specs.Calls.{Request, Call, get}
-use Rattle.model.specs.Runs.{run, Spared, Unbroken, releases, Absent, Others}
-use Rattle.model.specs.Demands.{NoTrace, undo, Undone, Timeout, ServedWithin}
+use Rattle.model.specs.Runs.{run, Spared, releases, Absent, Others}
+use Rattle.model.specs.Demands.{NoTrace, undo, Undone, Timeout, EndsWithin}
 use Rattle.model.specs.Pool.{Typed, waiters, perform}
-use Rattle.model.proofs.Table.{below, state-c, state-e, ask, askFor, state-limited, two-ticks, met, bounds}
+use Rattle.model.proofs.Table.{below, state-c, state-e, ask, askFor, state-limited, two-ticks, met}
 use Rattle.model.proofs.Tests.{and-l, and-r}
 use Rattle.model.proofs.Bytes.{Bytes}
 use Rattle.model.proofs.Fates.{spared-none}
@@ -68,6 +68,6 @@ longest-c cs = base-timeout state-c (askFor 3 12 2147483647) 2147483647 cs (met 
 
 -- ---- the wait bound
 
--- after e, task 4 is served at the latest in the third successful release of any run
-pub bound-e : (cs : List Call) → Unbroken 4 (run (perform base) state-e cs) → 3 ≤ releases (run (perform base) state-e cs) → ServedWithin (perform base) state-e 4 3 cs
-bound-e cs = rw (bounds .bound-e) at (base-wait-bound state-e 4 cs (met .sound-e) (bounds .waits-e))
+-- after e, the wait of task 4 ends at the latest in the third successful release of any run
+pub bound-e : (cs : List Call) → 3 ≤ releases (run (perform base) state-e cs) → EndsWithin (perform base) state-e 4 3 cs
+bound-e cs = rw (met .bound-e) at (base-wait-bound state-e 4 cs (met .sound-e) (met .waits-e))

@@ -170,6 +170,11 @@ module _ (K : Rules) (t : ℕ) where
       (λ g. by (expires e) (λ x. rw (x, g) (rw x)) (λ x. rw (x, g) (rw x (ih ∙ ap (ended c) (behind-none e q o g)))))
       (λ g. by (expires e) (λ x. rw (x, g) ih) (λ x. rw (x, g) ih))
 
+-- no test refuses a tick
+pub tick-done : (K : Rules) {P : Type 0} (E : Store P) (s : State P) → sound K E s ≡ true → step K E tick s ≡ act K E tick s
+unfolding tests
+tick-done K E s h = step-done K E tick s (verdict-sound K E tick s h)
+
 -- ---- a call, and the wait of the entry `own`
 
 module _ (K : Rules) {P : Type 0} (E : Store P) (own : Entry) where
@@ -221,10 +226,6 @@ module _ (K : Rules) {P : Type 0} (E : Store P) (own : Entry) where
         woken = wake-first t e-tmout (leave e-tmout (expired q)) (serve K E (s .pool) (remaining q) .woken) (wake-expired K t e-tmout q order ∙ ap (ended e-tmout) here);
         gone = serve-away (s .pool) (remaining q) (none-away t (remaining q) (entry-remaining K t q order ∙ ap ticked here));
       }
-
-  pub tick-done : (s : State P) → sound K E s ≡ true → step K E tick s ≡ act K E tick s
-  unfolding tests
-  tick-done s h = step-done K E tick s (verdict-sound K E tick s h)
 
   module _ (s : State P) (l : ℕ) (h : sound K E s ≡ true) (m : 1 ≤ l) (here : entryIn t (s .queue) ≡ some (withLeft l own)) where
     -- no tick passes

@@ -15,8 +15,8 @@ use Rattle.model.specs.Waiting.{Entry, waits, entryIn, remove}
 use Rattle.model.specs.Rules.{Rules, Laws, queued}
 use Rattle.model.specs.Calls.{BlockOffset, noOffset, noPlace, Request, Call, get, release, cancel, tick, inquire, Said, Reply, says, Refusal, plain, refuse, decide, entryOf, leaves, blocks, Store, State, state, fitting, given, serve, headStuck, sound, isLive, misplaced, tests, verdict, act, step}
 use Rattle.model.specs.Refusals.{Refused}
-use Rattle.model.specs.Runs.{Turn, after, run, refuses, refusedBy, wakeCode, endCode, Spared, Unbroken, releases, Unpassed, gets, refusals, winners, Others, Ranked}
-use Rattle.model.specs.Demands.{Seen, NoTrace, undo, Undone, Timeout, Untimed, ServedWithin, OneHolder}
+use Rattle.model.specs.Runs.{Turn, after, run, refuses, refusedBy, wakeCode, endCode, Spared, releases, Unpassed, gets, refusals, winners, Others, Ranked}
+use Rattle.model.specs.Demands.{Seen, NoTrace, undo, Undone, Timeout, Untimed, EndsWithin, OneHolder}
 use Rattle.model.specs.Bytes.{blocksOf, render, erase}
 use Rattle.model.specs.Places.{noEntry, pad, used, allUnused, tidy, entriesOf, queueOf}
 use Rattle.model.specs.Pool.{Stored, stored, Typed, view, waiters, waitBound, settled, soundBy, performBy, rulesOf, isSound, perform, create}
@@ -525,8 +525,8 @@ module _ (R : ℕ → Rules) (law : (n : ℕ) → Laws (R n)) (long-is : (n : �
 
   -- ---- the wait bound
 
-  serving-shown : (n t m : ℕ) (cs : List Call) (p : Stored) (s : State (List Block)) → Shown n p s → ServedWithin (step (R n) (blocks (R n))) s t m cs → ServedWithin (perform R) p t m cs
-  serving-shown n t m cs p s o w =
+  ending-shown : (n t m : ℕ) (cs : List Call) (p : Stored) (s : State (List Block)) → Shown n p s → EndsWithin (step (R n) (blocks (R n))) s t m cs → EndsWithin (perform R) p t m cs
+  ending-shown n t m cs p s o w =
       let turns = runs-shown n (w .before) p s o in
       let last = next n (w .call) (after (perform R) p (w .before)) (after (step (R n) (blocks (R n))) s (w .before)) (ends-shown n (w .before) p s o) in
       record {
@@ -535,19 +535,21 @@ module _ (R : ℕ → Rules) (law : (n : ℕ) → Laws (R n)) (long-is : (n : �
         rest = w .rest;
         is = w .is;
         waiting = ap (endCode t) turns ∙ w .waiting;
-        woken = ap (λ (x : Said). wakeCode t (x .woken)) (last .said) ∙ w .woken;
         soon = rw turns (w .soon);
+        code = w .code;
+        woken = ap (λ (x : Said). wakeCode t (x .woken)) (last .said) ∙ w .woken;
+        served = w .served;
       }
 
   pub perform-bound : (p : Stored) (t : ℕ) (e : Entry) (cs : List Call) → isSound R p ≡ true → entryIn t (waiters p) ≡ some e
-      → Unpassed (rulesOf R p .rank) t (rulesOf R p .rank e) (run (perform R) p cs) → Unbroken t (run (perform R) p cs)
-      → waitBound p t ≤ releases (run (perform R) p cs) → ServedWithin (perform R) p t (waitBound p t) cs
+      → Unpassed (rulesOf R p .rank) t (rulesOf R p .rank e) (run (perform R) p cs)
+      → waitBound p t ≤ releases (run (perform R) p cs) → EndsWithin (perform R) p t (waitBound p t) cs
   unfolding view
-  perform-bound p t e cs h here up u j =
+  perform-bound p t e cs h here up j =
       let n = length (p .bytes) in
       let turns = run-view p cs h in
-      serving-shown n t (waitBound p t) cs p (view p) (own p h)
-      (wait-bound (R n) (blocks (R n)) liveCount (law n) (block-laws (R n)) (count-laws (R n)) t e (view p) cs (shown-sound n p (view p) (own p h)) here (rw turns at up) (rw turns at u) (rw turns at j))
+      ending-shown n t (waitBound p t) cs p (view p) (own p h)
+      (wait-bound (R n) (blocks (R n)) liveCount (law n) (block-laws (R n)) (count-laws (R n)) t e (view p) cs (shown-sound n p (view p) (own p h)) here (rw turns at up) (rw turns at j))
 
   -- ---- create
 

@@ -84,6 +84,8 @@ pub record Met : Type 0 where
   pub places-c : length (state-c .queue .entries) ≡ 32
   pub list-c : blocks (base 64) .sound blocks-c ≡ true
   pub list-e : queued (base 64) queue-e ≡ true
+  pub waits-e : waits 4 (waiters state-e) ≡ true
+  pub bound-e : waitBound state-e 4 ≡ 3
   pub told : perform base (get (ask 3 12)) state-c .said .code ≡ waiting
   pub told-limited : perform base (get (askFor 3 12 2)) state-c .said .code ≡ waiting
   pub told-longest : perform base (get (askFor 3 12 2147483647)) state-c .said .code ≡ waiting
@@ -94,7 +96,7 @@ pub record Met : Type 0 where
   pub refused-spoiled : refusedBy (perform base tick spoiled .said) ≡ some (plain e-sys)
 
 pub met : Met
-unfolding total tiled fits firstFit carve granted startsAt holder join freed sumFree greatestFree blocksFrom le32 header overlay written mask render erase waits remove headTask insert blocked leads expired remaining queued base leave serve headStuck sound tests act pad used allUnused tidy view soundBy performBy create stateFrom run wakeCode endCode ticks refuses below
+unfolding total tiled fits firstFit carve granted startsAt holder join freed liveCount sumFree greatestFree blocksFrom le32 header overlay written mask render erase waits placeIn remove headTask insert blocked leads expired remaining queued base leave serve headStuck sound tests act pad used allUnused tidy view soundBy performBy create stateFrom run wakeCode endCode ticks refuses below
 met =
     record {
       valid = refl;
@@ -112,6 +114,8 @@ met =
       places-c = refl;
       list-c = refl;
       list-e = refl;
+      waits-e = refl;
+      bound-e = refl;
       told = refl;
       told-limited = refl;
       told-longest = refl;
@@ -122,7 +126,32 @@ met =
       refused-spoiled = refl;
     }
 
--- ---- the wait bound: live blocks, places, and runs in which it is reached
+-- ---- the wait bound: waits that last as long as it allows, and some that do not
+
+-- of a task that waits in a state, and of calls from there: whether the state is sound, the live blocks, the task's place and bound, the successful
+-- releases among the calls, and the code with which the first call that wakes the task does so
+record Wait : Type 0 where
+  good : Bool
+  live : ℕ
+  place : ℕ
+  bound : ℕ
+  done : ℕ
+  code : Option ℤ
+
+abbrev waitOf : (ℕ → Rules) → Stored → ℕ → List Call → Wait
+waitOf R p t cs =
+    record {
+      good = isSound R p;
+      live = liveCount (blocksOf (p .bytes));
+      place = placeIn t (waiters p);
+      bound = waitBound p t;
+      done = releases (run (perform R) p cs);
+      code = endCode t (run (perform R) p cs);
+    }
+
+-- in a sound state
+abbrev wait : ℕ → ℕ → ℕ → ℕ → Option ℤ → Wait
+wait live place bound done code = record { good = true; live = live; place = place; bound = bound; done = done; code = code }
 
 -- tasks 3 and 4 each wait for the whole pool, of which tasks 1 and 2 have a block each
 abbrev state-whole : Stored
@@ -135,55 +164,23 @@ one-release = at 8 ∷ at 8 ∷ poll 5 4 ∷ []
 abbrev two-releases : List Call
 two-releases = one-release ++ (at 28 ∷ wants 5 4 ∷ at 12 ∷ tick ∷ inquire ∷ cancel 5 ∷ [])
 
--- the smallest request first: task 3 waits for the whole pool, of which task 1 has a block, and task 5 passes it
+-- the smallest request first
 abbrev by-size : ℕ → Rules
 by-size n = record { valid = okLong n; long = n; tasks = most-tasks; allowed = λ e. okSize n (e .size); need = needOf; rank = λ e. e .size }
 
+-- task 3 waits for the whole pool, of which task 1 has a block; where the smallest comes first, task 5 passes it
 abbrev state-passed : Stored
 state-passed = made blocks-b (record { task = 3; size = 56; left = forever } ∷ [])
 
--- the successful releases of a run, and the code with which the task t is woken
-abbrev heard : (ℕ → Rules) → ℕ → Stored → List Call → ℕ × Option ℤ
-heard R t p cs = (releases (run (perform R) p cs), endCode t (run (perform R) p cs))
+pub record Waits : Type 0 where
+  pub head-e : waitOf base state-e 3 (at 28 ∷ []) ≡ wait 2 1 2 1 (some e-ok)
+  pub second-e : waitOf base state-e 4 (at 28 ∷ []) ≡ wait 2 2 3 1 (some e-ok)
+  pub head-not : waitOf base state-whole 3 one-release ≡ wait 2 1 2 1 none
+  pub head : waitOf base state-whole 3 (one-release ++ (at 28 ∷ [])) ≡ wait 2 1 2 2 (some e-ok)
+  pub second-not : waitOf base state-whole 4 two-releases ≡ wait 2 2 3 2 none
+  pub second : waitOf base state-whole 4 (two-releases ++ (at 8 ∷ [])) ≡ wait 2 2 3 3 (some e-ok)
+  pub passed : waitOf by-size state-passed 3 (wants 5 4 ∷ at 8 ∷ []) ≡ wait 1 1 1 1 none
 
-pub record Bounds : Type 0 where
-  pub live-e : liveCount (blocksOf (state-e .bytes)) ≡ 2
-  pub head-e : placeIn 3 (waiters state-e) ≡ 1
-  pub second-e : placeIn 4 (waiters state-e) ≡ 2
-  pub bound-head-e : waitBound state-e 3 ≡ 2
-  pub bound-e : waitBound state-e 4 ≡ 3
-  pub waits-e : waits 4 (waiters state-e) ≡ true
-  pub served-e : heard base 4 state-e (at 28 ∷ []) ≡ (1, some e-ok)
-  pub sound-whole : isSound base state-whole ≡ true
-  pub bound-head : waitBound state-whole 3 ≡ 2
-  pub head-not : heard base 3 state-whole one-release ≡ (1, none)
-  pub head-served : heard base 3 state-whole (one-release ++ (at 28 ∷ [])) ≡ (2, some e-ok)
-  pub bound-second : waitBound state-whole 4 ≡ 3
-  pub second-not : heard base 4 state-whole two-releases ≡ (2, none)
-  pub second-served : heard base 4 state-whole (two-releases ++ (at 8 ∷ [])) ≡ (3, some e-ok)
-  pub sound-passed : isSound by-size state-passed ≡ true
-  pub bound-passed : waitBound state-passed 3 ≡ 1
-  pub passed : heard by-size 3 state-passed (wants 5 4 ∷ at 8 ∷ []) ≡ (1, none)
-
-pub bounds : Bounds
+pub waits-hold : Waits
 unfolding total tiled fits firstFit carve granted startsAt holder join freed liveCount sumFree greatestFree blocksFrom le32 header overlay written mask render erase waits placeIn remove headTask insert blocked leads expired remaining queued base leave serve headStuck sound tests act pad used allUnused tidy view soundBy performBy create stateFrom after run wakeCode endCode releases
-bounds =
-    record {
-      live-e = refl;
-      head-e = refl;
-      second-e = refl;
-      bound-head-e = refl;
-      bound-e = refl;
-      waits-e = refl;
-      served-e = refl;
-      sound-whole = refl;
-      bound-head = refl;
-      head-not = refl;
-      head-served = refl;
-      bound-second = refl;
-      second-not = refl;
-      second-served = refl;
-      sound-passed = refl;
-      bound-passed = refl;
-      passed = refl;
-    }
+waits-hold = record { head-e = refl; second-e = refl; head-not = refl; head = refl; second-not = refl; second = refl; passed = refl }

@@ -14,10 +14,10 @@ use Rattle.model.specs.Waiting.{Entry, waits, entryIn}
 use Rattle.model.specs.Rules.{Rules, Laws, queued, base}
 use Rattle.model.specs.Calls.{BlockOffset, noPlace, Request, Call, get, release, Refusal, refuse, entryOf, blocks, isLive, step}
 use Rattle.model.specs.Refusals.{Refused}
-use Rattle.model.specs.Runs.{after, run, refuses, refusedBy, Spared, Unbroken, releases, Unpassed, Others, Ranked}
+use Rattle.model.specs.Runs.{after, run, refuses, refusedBy, Spared, releases, Unpassed, Others, Ranked}
 use Rattle.model.specs.Bytes.{blocksOf, render}
 use Rattle.model.specs.Places.{entriesOf, queueOf}
-use Rattle.model.specs.Demands.{Seen, NoTrace, undo, Undone, Timeout, Untimed, ServedWithin, Reached, OneHolder}
+use Rattle.model.specs.Demands.{Seen, NoTrace, undo, Undone, Timeout, Untimed, EndsWithin, Reached, OneHolder}
 use Rattle.model.specs.Pool.{Stored, Typed, view, waiters, waitBound, rulesOf, isSound, perform, create}
 use Rattle.model.proofs.Tests.{clash}
 use Rattle.model.proofs.Bytes.{blocks-render, render-blocks}
@@ -130,12 +130,12 @@ module _ (R : ℕ → Rules) (law : (n : ℕ) → Laws (R n)) (long-is : (n : �
 
   -- ---- the wait bound, for every run from a sound state in which the task t waits with the entry e
 
-  -- With L live blocks and the task at place k of the queue, it is served at the latest in the (L + k - 1)-th successful release, if it is neither
-  -- cancelled nor timed out and nobody of better rank is granted or told to wait meanwhile.
+  -- With L live blocks and the task at place k of the queue, its wait ends at the latest in the (L + k - 1)-th successful release, and ends with a block
+  -- if it is neither cancelled nor timed out, provided that nobody of better rank is granted or told to wait meanwhile.
   pub wait-bound : (p : Stored) (t : ℕ) (e : Entry) (cs : List Call) → isSound R p ≡ true → entryIn t (waiters p) ≡ some e
-      → Unpassed (rulesOf R p .rank) t (rulesOf R p .rank e) (run (perform R) p cs) → Unbroken t (run (perform R) p cs)
-      → waitBound p t ≤ releases (run (perform R) p cs) → ServedWithin (perform R) p t (waitBound p t) cs
-  wait-bound p t e cs h here up u n = P.perform-bound R law long-is p t e cs h here up u n
+      → Unpassed (rulesOf R p .rank) t (rulesOf R p .rank e) (run (perform R) p cs)
+      → waitBound p t ≤ releases (run (perform R) p cs) → EndsWithin (perform R) p t (waitBound p t) cs
+  wait-bound p t e cs h here up n = P.perform-bound R law long-is p t e cs h here up n
 
 -- ---- the pool of document 01
 
@@ -205,13 +205,13 @@ pub base-unlimited : (p : Stored) (f : Request) (cs : List Call) → isSound bas
 base-unlimited = unlimited base base-laws base-long
 
 -- all are of one rank
-pub base-wait-bound : (p : Stored) (t : ℕ) (cs : List Call) → isSound base p ≡ true → waits t (waiters p) ≡ true → Unbroken t (run (perform base) p cs)
-    → waitBound p t ≤ releases (run (perform base) p cs) → ServedWithin (perform base) p t (waitBound p t) cs
-base-wait-bound p t cs h w u n = go (entryIn t (waiters p)) refl
+pub base-wait-bound : (p : Stored) (t : ℕ) (cs : List Call) → isSound base p ≡ true → waits t (waiters p) ≡ true
+    → waitBound p t ≤ releases (run (perform base) p cs) → EndsWithin (perform base) p t (waitBound p t) cs
+base-wait-bound p t cs h w n = go (entryIn t (waiters p)) refl
   where
-    go : (v : Option Entry) → entryIn t (waiters p) ≡ v → ServedWithin (perform base) p t (waitBound p t) cs
+    go : (v : Option Entry) → entryIn t (waiters p) ≡ v → EndsWithin (perform base) p t (waitBound p t) cs
     go none e = clash (waits t (waiters p)) w (none-away t (waiters p) e)
-    go (some x) e = wait-bound base base-laws base-long p t x cs h e (base-unpassed (length (p .bytes)) t x (run (perform base) p cs)) u n
+    go (some x) e = wait-bound base base-laws base-long p t x cs h e (base-unpassed (length (p .bytes)) t x (run (perform base) p cs)) n
 
 -- for every number of live blocks and every place there is a wait that lasts so long
 pub base-bound-reached : (live k : ℕ) → 1 ≤ live → 12 * live ≤ longest-pool → 1 ≤ k → k ≤ most-tasks → Reached live k

@@ -107,8 +107,8 @@ module _ (K : Rules) {P : Type 0} (E : Store P) (L : Laws K) (S : StoreLaws K E)
             record {
               ends = rw (le-leb (ticks cs) n (omega (arith, m, left))) u;
               waiting = λ k. entry-waits (f .task) (withLeft (older (ticks cs) (n + 1)) asked) (later .queue) here;
-              woken = λ k. rw (tick-done K E asked later good) (last k .woken);
-              gone = λ k. rw (tick-done K E asked later good) (last k .gone);
+              woken = λ k. rw (tick-done K E later good) (last k .woken);
+              gone = λ k. rw (tick-done K E later good) (last k .gone);
             }
 
     -- no limit

@@ -5,6 +5,7 @@ use mathlib.Core.Bool.{true, false, cond}
 use mathlib.Core.List.{List, [], _∷_, _++_}
 use mathlib.Core.Option.{none, some}
 use lib.Dec.{leb}
+use lib.IntN.{ℤ}
 use Rattle.model.specs.Limits.{e-ok, e-rlwai, e-tmout}
 use Rattle.model.specs.Blocks.{Block, total, liveCount}
 use Rattle.model.specs.Waiting.{Entry, waits, placeIn}
@@ -49,16 +50,18 @@ pub record Untimed {S : Type 0} (step : Call → S → Reply S) (entries : S →
   pub ends : endCode t (run step s cs) ≡ none
   pub waiting : waits t (entries (after step s cs)) ≡ true
 
--- The wait bound: one of the calls cs, made from the state s, wakes the task t with code 0. None before it wakes that task, and fewer than n of those
--- are successful releases: the task is served at the latest in the n-th.
-pub record ServedWithin {S : Type 0} (step : Call → S → Reply S) (s : S) (t n : ℕ) (cs : List Call) : Type 0 where
+-- The wait bound: one of the calls cs, made from the state s, ends the wait of the task t. None before it wakes the task, and fewer than n of those are
+-- successful releases: the wait ends at the latest in the n-th. If it is neither cancelled nor timed out, the task is served.
+pub record EndsWithin {S : Type 0} (step : Call → S → Reply S) (s : S) (t n : ℕ) (cs : List Call) : Type 0 where
   pub before : List Call
   pub call : Call
   pub rest : List Call
   pub is : cs ≡ before ++ (call ∷ rest)
   pub waiting : endCode t (run step s before) ≡ none
-  pub woken : wakeCode t (step call (after step s before) .said .woken) ≡ some e-ok
   pub soon : releases (run step s before) < n
+  pub code : ℤ
+  pub woken : wakeCode t (step call (after step s before) .said .woken) ≡ some code
+  pub served : (code ≡ e-rlwai → ⊥) → (code ≡ e-tmout → ⊥) → code ≡ e-ok
 
 -- It takes exactly n: calls that do not wake the task t, n - 1 of them successful releases, and then a release that wakes it with code 0.
 pub record ServedAt {S : Type 0} (step : Call → S → Reply S) (s : S) (t n : ℕ) : Type 0 where

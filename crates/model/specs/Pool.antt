@@ -34,7 +34,7 @@ view p = state (blocksOf (p .bytes)) (entriesOf (p .queue))
 abbrev pub waiters : Stored → List Entry
 waiters p = entriesOf (p .queue)
 
--- With L live blocks and the task t at place k of the queue: L + k - 1, the successful releases within which it is served.
+-- With L live blocks and the task t at place k of the queue: L + k - 1, the successful releases within which its wait ends.
 abbrev pub waitBound : Stored → ℕ → ℕ
 waitBound p t = liveCount (blocksOf (p .bytes)) + placeIn t (waiters p) - 1
 

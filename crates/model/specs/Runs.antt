@@ -6,7 +6,7 @@ use mathlib.Core.List.{List, [], _∷_}
 use mathlib.Core.Option.{Option, none, some}
 use lib.Dec.{ltb, eqb}
 use lib.IntN.{ℤ, pos, negsuc}
-use Rattle.model.specs.Limits.{e-ok, e-rlwai, e-tmout}
+use Rattle.model.specs.Limits.{e-ok, e-rlwai}
 use Rattle.model.specs.Waiting.{Entry}
 use Rattle.model.specs.Calls.{Woken, Request, Call, get, release, cancel, tick, inquire, Said, Refusal, Reply, entryOf}
 
@@ -61,19 +61,10 @@ unfoldable pub endCode : ℕ → List Turn → Option ℤ
 endCode t [] = none
 endCode t (x ∷ l) = firstOf (wakeCode t (x .said .woken)) (endCode t l)
 
--- the wait of the task t does not end with the code c
-abbrev pub EndsNot : ℤ → ℕ → List Turn → Type 0
-EndsNot c t l = endCode t l ≡ some c → ⊥
-
 -- the wait of the task t is ended neither by a block nor by a cancellation
 pub record Spared (t : ℕ) (l : List Turn) : Type 0 where
-  pub unserved : EndsNot e-ok t l
-  pub uncancelled : EndsNot e-rlwai t l
-
--- the wait of the task t is ended neither by a cancellation nor by its time
-pub record Unbroken (t : ℕ) (l : List Turn) : Type 0 where
-  pub uncancelled : EndsNot e-rlwai t l
-  pub untimed : EndsNot e-tmout t l
+  pub unserved : endCode t l ≡ some e-ok → ⊥
+  pub uncancelled : endCode t l ≡ some e-rlwai → ⊥
 
 -- the ticks that pass with a call
 abbrev pub passes : Call → ℕ

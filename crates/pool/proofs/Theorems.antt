@@ -20,10 +20,10 @@ use Rattle.model.specs.Waiting.{waits, placeIn, headTask}
 use Rattle.model.specs.Rules.{Rules, okTask, okLong, base}
 use Rattle.model.specs.Calls.{noOffset, noPlace, Request, Call, get, release, cancel, tick, inquire, Reply, Refusal, plain, leaves, blocks, sound, isLive, tests, act, step}
 use Rattle.model.specs.Refusals.{Refused, get-id}
-use Rattle.model.specs.Runs.{after, run, refuses, wakeCode, endCode, Spared, Unbroken, ticks, releases, gets, refusals, winners, Others}
+use Rattle.model.specs.Runs.{after, run, refuses, wakeCode, endCode, Spared, ticks, releases, gets, refusals, winners, Others}
 use Rattle.model.specs.Places.{tidy, entriesOf, queueOf, wokenOf}
 use Rattle.model.specs.Pool.{Stored, stored, Typed, view, waiters, settled, soundBy, isSound, perform, create, Result, result, answered, created, called, inquired, totals}
-use Rattle.model.specs.Demands.{NoTrace, undo, Undone, Timeout, ServedWithin, OneHolder}
+use Rattle.model.specs.Demands.{NoTrace, undo, Undone, Timeout, EndsWithin, OneHolder}
 use Rattle.model.proofs.Tests.{by, and-l}
 use Rattle.model.proofs.Waiting.{waits-least, head-place}
 use Rattle.model.proofs.Pool.{by-unsound, by-done}
@@ -204,29 +204,33 @@ module _ (l : List ℕ) (q : Queue) (h : isSound base (stored l q) ≡ true) (f 
       pub next-tick-ends : ticks cs ≡ n → waits (f .task) (entriesOf (called tick (later .bytes) (later .queue) .answer .queue)) ≡ false
       next-tick-ends k = timed .gone k
 
--- ---- the wait bound: the task t waits, and a run follows that neither cancels its wait nor has it time out
+-- ---- the wait bound: the task t waits, and a run follows
 
 module _ (l : List ℕ) (q : Queue) (h : isSound base (stored l q) ≡ true) (t : ℕ) (w : waits t (entriesOf q) ≡ true) (cs : List Call) where
   -- the successful releases of the run
   abbrev made : ℕ
   made = releases (run (perform base) (stored l q) cs)
 
-  -- with L live blocks and the task at place k of the queue, it is served at the latest in the (L + k - 1)-th
-  pub wait-served : Unbroken t (run (perform base) (stored l q) cs) → liveCount (blocksOf l) + placeIn t (entriesOf q) - 1 ≤ made
-      → ServedWithin (perform base) (stored l q) t (liveCount (blocksOf l) + placeIn t (entriesOf q) - 1) cs
-  wait-served u n = base-wait-bound (stored l q) t cs h w u n
+  -- with L live blocks and the task at place k of the queue, its wait ends at the latest in the (L + k - 1)-th
+  pub wait-ends : liveCount (blocksOf l) + placeIn t (entriesOf q) - 1 ≤ made → EndsWithin (perform base) (stored l q) t (liveCount (blocksOf l) + placeIn t (entriesOf q) - 1) cs
+  wait-ends n = base-wait-bound (stored l q) t cs h w n
 
-  -- the head in the L-th
-  pub head-served : headTask (entriesOf q) ≡ t → Unbroken t (run (perform base) (stored l q) cs) → liveCount (blocksOf l) ≤ made
-      → ServedWithin (perform base) (stored l q) t (liveCount (blocksOf l)) cs
-  head-served e u =
+  -- that of the head in the L-th
+  pub head-ends : headTask (entriesOf q) ≡ t → liveCount (blocksOf l) ≤ made → EndsWithin (perform base) (stored l q) t (liveCount (blocksOf l)) cs
+  head-ends e =
       let bound : liveCount (blocksOf l) + placeIn t (entriesOf q) - 1 ≡ liveCount (blocksOf l) = omega (arith, head-place t (entriesOf q) e w) in
-      rw bound at (wait-served u)
+      rw bound at wait-ends
 
-  -- that call's answer has the task with code 0 among the woken
-  pub served-answer : (n : ℕ) (s : ServedWithin (perform base) (stored l q) t n cs)
-      → wakeCode t (called (s .call) (after (perform base) (stored l q) (s .before) .bytes) (after (perform base) (stored l q) (s .before) .queue) .answer .woken) ≡ some e-ok
-  served-answer n s =
-      let p = after (perform base) (stored l q) (s .before) in
-      let least = waits-least (base (length l)) t (entriesOf q) (open-state l (q .entries) h .queue) w in
-      wake-pad t most-tasks (perform base (s .call) p .said .woken) least (base-woken-fit (s .call) p (base-run-sound (stored l q) (s .before) h)) ∙ s .woken
+  module _ (n : ℕ) (o : EndsWithin (perform base) (stored l q) t n cs) where
+    -- the state that the call which ends it is handed
+    abbrev last : Stored
+    last = after (perform base) (stored l q) (o .before)
+
+    -- its answer has the task among the woken; with code 0, if it is neither cancelled nor timed out
+    pub ending-answer : wakeCode t (called (o .call) (last .bytes) (last .queue) .answer .woken) ≡ some (o .code)
+    ending-answer =
+        let least = waits-least (base (length l)) t (entriesOf q) (open-state l (q .entries) h .queue) w in
+        wake-pad t most-tasks (perform base (o .call) last .said .woken) least (base-woken-fit (o .call) last (base-run-sound (stored l q) (o .before) h)) ∙ o .woken
+
+    pub served-answer : (o .code ≡ e-rlwai → ⊥) → (o .code ≡ e-tmout → ⊥) → wakeCode t (called (o .call) (last .bytes) (last .queue) .answer .woken) ≡ some e-ok
+    served-answer a b = ending-answer ∙ ap some (o .served a b)
