@@ -18,6 +18,16 @@ const WORKERS: usize = 2;
 /// Bytes read past the expected output.
 const MORE: usize = 4_096;
 
+/// Inputs of a program, numbered from 0.
+pub trait Inputs: Sync {
+    /// What a report calls an input.
+    const NAME: &'static str;
+
+    fn total(&self) -> u64;
+
+    fn input(&self, index: u64) -> io::Result<Vec<u8>>;
+}
+
 /// The logs to compare on: dealt ones first, then files.
 pub struct Logs {
     pub seed: u64,
@@ -25,12 +35,14 @@ pub struct Logs {
     pub files: Vec<PathBuf>,
 }
 
-impl Logs {
-    pub fn total(&self) -> u64 {
+impl Inputs for Logs {
+    const NAME: &'static str = "log";
+
+    fn total(&self) -> u64 {
         self.count + self.files.len() as u64
     }
 
-    pub fn log(&self, index: u64) -> io::Result<Vec<u8>> {
+    fn input(&self, index: u64) -> io::Result<Vec<u8>> {
         match index.checked_sub(self.count) {
             None => Ok(deal(self.seed, index)),
             Some(file) => fs::read(&self.files[file as usize]),
@@ -56,24 +68,24 @@ pub trait Cases: Sync {
     fn report(&self, difference: &Difference) -> String;
 }
 
-/// Logs with the text that a program must write for each.
-pub struct Texts {
+/// Inputs with the text that a program must write for each.
+pub struct Texts<I> {
     pub text: Text,
-    pub logs: Logs,
+    pub inputs: I,
 }
 
-impl Cases for Texts {
+impl<I: Inputs> Cases for Texts<I> {
     fn total(&self) -> u64 {
-        self.logs.total()
+        self.inputs.total()
     }
 
     fn case(&self, index: u64) -> io::Result<Option<Case>> {
-        let input = self.logs.log(index)?;
+        let input = self.inputs.input(index)?;
         let expected = (self.text)(&input).into_bytes();
         Ok(Some(Case { input, expected }))
     }
 
-    /// The report: number, log in hex, and both texts.
+    /// The report: number, input in hex, and both texts.
     fn report(&self, difference: &Difference) -> String {
         let expected = String::from_utf8_lossy(&difference.case.expected);
         let actual = String::from_utf8_lossy(&difference.outcome.output);
@@ -83,13 +95,14 @@ impl Cases for Texts {
             .take_while(|(a, b)| a == b)
             .count();
         format!(
-            "log {} differs at line {} ({})\nlog in hex:\n{}\nexpected:\n{}program:\n{}",
+            "{name} {} differs at line {} ({})\n{name} in hex:\n{}\nexpected:\n{}program:\n{}",
             difference.index,
             same + 1,
             difference.outcome.status,
             to_hex(&difference.case.input),
             expected,
-            actual
+            actual,
+            name = I::NAME
         )
     }
 }

@@ -2,7 +2,7 @@
 
 use std::io;
 
-use crate::compare::{Case, Cases, Difference, Logs};
+use crate::compare::{Case, Cases, Difference, Inputs, Logs};
 use crate::hex::to_hex;
 use crate::log::read_log;
 use crate::request::Request;
@@ -35,7 +35,7 @@ impl Requests {
             None => Ok(Some(request_case(&deal_request(seed, index)))),
             Some(number) => {
                 let mut rng = Rng::new(seed, number);
-                let log = self.logs.log(number)?;
+                let log = self.logs.input(number)?;
                 Ok(log_case(&mut rng, &log))
             }
         }

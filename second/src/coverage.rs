@@ -2,6 +2,7 @@
 
 use std::collections::BTreeMap;
 
+use crate::attributes::Attributes;
 use crate::codes::{E_OK, E_TMOUT, INSIDE_BLOCK};
 use crate::log::{Fault, Record};
 use crate::number::NumberFault;
@@ -27,7 +28,7 @@ impl Coverage {
         self.maxima.get(name).copied().unwrap_or(0)
     }
 
-    fn add(&mut self, name: impl Into<String>) {
+    pub(crate) fn add(&mut self, name: impl Into<String>) {
         *self.counts.entry(name.into()).or_default() += 1;
     }
 
@@ -38,13 +39,18 @@ impl Coverage {
 
     /// Runs a log and counts what it reaches.
     pub fn add_log(&mut self, log: &[u8]) {
+        self.add_log_on(Attributes::default(), log);
+    }
+
+    /// Runs a log on a pool with these attributes and counts what it reaches.
+    pub fn add_log_on(&mut self, attributes: Attributes, log: &[u8]) {
         self.add("logs");
         match log.len() {
             0 => self.add("log empty"),
             MAX_LOG => self.add("log of the greatest length"),
             _ => {}
         }
-        let mut replay = match Replay::start(log) {
+        let mut replay = match Replay::start(attributes, log) {
             Ok(replay) => replay,
             Err(fault) => return self.add(start_fault_name(fault)),
         };
@@ -60,6 +66,7 @@ impl Coverage {
                 Step::Done(record, answer) => {
                     self.add_call(record, &answer);
                     self.add_details(&before, replay.pool(), record, &answer);
+                    self.add_kinds_call(&before, replay.pool(), record, &answer);
                     self.add_ended(&waits.follow(record, &answer));
                 }
                 Step::End => return self.add("end clean"),
@@ -171,7 +178,7 @@ impl Coverage {
     }
 }
 
-fn call_name(record: Record) -> &'static str {
+pub(crate) fn call_name(record: Record) -> &'static str {
     match record {
         Record::Get { limit: 0, .. } => "get with limit 0,",
         Record::Get { .. } => "get",

@@ -5,7 +5,7 @@ use crate::rng::Rng;
 use crate::shapes::mixed;
 
 /// Number forms that are refused, or cut off at the end of a log.
-const BAD_NUMBERS: [&[u8]; 14] = [
+pub const BAD_NUMBERS: [&[u8]; 14] = [
     &[0x80, 0x00],
     &[0x81, 0x00],
     &[0x88, 0x80, 0x00],

@@ -1,6 +1,9 @@
 //! Builds a log record by record and follows it on a pool, so that requests
 //! can be chosen by the state they meet.
 
+use crate::attributes::Attributes;
+use crate::codes::E_OK;
+use crate::kinds::Kinds;
 use crate::log::{write_record, Record};
 use crate::number::write_number;
 use crate::pool::{Answer, Pool, FOREVER, MAX_TASK};
@@ -19,7 +22,12 @@ pub struct Dealer {
 impl Dealer {
     /// A log on a pool of `len` bytes, an allowed length.
     pub fn new(rng: Rng, len: u32) -> Dealer {
-        let pool = Pool::create(len).expect("the length is allowed");
+        Dealer::with(rng, len, Attributes::default())
+    }
+
+    /// A log on a pool with attributes that are allowed for its length.
+    pub fn with(rng: Rng, len: u32, attributes: Attributes) -> Dealer {
+        let pool = Pool::create(len, attributes).expect("length and attributes are allowed");
         let mut log = Vec::new();
         write_number(&mut log, len);
         Dealer { rng, pool, log }
@@ -49,6 +57,18 @@ impl Dealer {
 
     pub fn tick(&mut self) -> Answer {
         self.put(Record::Tick)
+    }
+
+    /// Repeats a request until it is not granted; answers the offsets.
+    pub fn fill(&mut self, mut request: impl FnMut(&mut Dealer) -> Answer) -> Vec<u32> {
+        let mut offsets = Vec::new();
+        loop {
+            let answer = request(self);
+            if answer.code != E_OK {
+                return offsets;
+            }
+            offsets.push(answer.offset);
+        }
     }
 
     /// All tasks in random order.
@@ -98,6 +118,13 @@ impl Dealer {
 
     pub fn wrong_size(&mut self) -> u32 {
         let max = self.pool.max_size();
+        if let Some(kinds) = self.pool.kinds() {
+            // These are allowed if the top kind or N is taken for M.
+            if self.rng.chance(50) {
+                let above = [max, kinds.top() - 1, kinds.top(), self.pool.len() - HEADER];
+                return self.rng.pick(&above).max(max + 1);
+            }
+        }
         let wrong = [0, 0, max + 1, max + 4, max + HEADER, max + 65_536, 65_537];
         let huge = [1 << 31, u32::MAX - 7, u32::MAX - 3, u32::MAX];
         if self.rng.chance(60) {
@@ -136,8 +163,28 @@ impl Dealer {
         self.rng.pick(&spots)
     }
 
-    /// A size from 1 to the greatest allowed, often near a limit.
+    /// A size from 1 to the greatest allowed, often near a limit or a kind.
     pub fn size(&mut self) -> u32 {
+        match self.pool.kinds() {
+            None => self.size_near_limit(),
+            Some(kinds) => self.size_near_kind(kinds),
+        }
+    }
+
+    fn size_near_kind(&mut self, kinds: Kinds) -> u32 {
+        let (max, kind) = (self.pool.max_size(), self.rng.pick(kinds.as_slice()));
+        let size = match self.rng.below(10) {
+            0 => 1,
+            1 => max,
+            2 | 3 => self.rng.between(1, max),
+            4 | 5 => kind - 1,
+            6 | 7 => kind,
+            _ => kind + 1,
+        };
+        size.min(max)
+    }
+
+    fn size_near_limit(&mut self) -> u32 {
         let max = self.pool.max_size();
         match self.rng.below(10) {
             0..=3 => self.rng.between(1, max.min(40)),

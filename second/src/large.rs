@@ -29,33 +29,28 @@ const ORDERS: [Order; 4] = [
 /// the release of the blocks in one of four orders, chosen by `round`.
 pub fn full_pool(rng: Rng, round: usize) -> Dealer {
     let mut dealer = Dealer::new(rng, MAX_LEN);
+    full_pool_on(&mut dealer, round);
+    dealer
+}
+
+/// The same on a fresh pool of any sort.
+pub fn full_pool_on(dealer: &mut Dealer, round: usize) {
     let most = dealer.rng.pick(&[4, 4, 8, 20]);
-    let mut offsets = fill(&mut dealer, most);
+    let mut offsets = dealer.fill(|dealer| {
+        let (task, size) = (dealer.any_task(), dealer.rng.between(1, most));
+        dealer.get(task, size, FOREVER)
+    });
     arrange(&mut dealer.rng, &mut offsets, ORDERS[round % ORDERS.len()]);
     for offset in offsets {
         if dealer.log.len() > 60_000 {
             break;
         }
         if dealer.rng.chance(25) {
-            put_request(&mut dealer);
+            put_request(dealer);
         }
         dealer.release(offset);
     }
     dealer.put_many(100);
-    dealer
-}
-
-/// Gets blocks of 1 to `most` bytes until none is granted; answers the offsets.
-fn fill(dealer: &mut Dealer, most: u32) -> Vec<u32> {
-    let mut offsets = Vec::new();
-    loop {
-        let (task, size) = (dealer.any_task(), dealer.rng.between(1, most));
-        let answer = dealer.get(task, size, FOREVER);
-        if answer.code != 0 {
-            return offsets;
-        }
-        offsets.push(answer.offset);
-    }
 }
 
 fn arrange(rng: &mut Rng, offsets: &mut [u32], order: Order) {
@@ -81,16 +76,21 @@ fn put_request(dealer: &mut Dealer) {
 /// A log of 65,536 bytes or a little less; `round` chooses how much less, and
 /// the pool length.
 pub fn near_limit(rng: Rng, round: usize) -> Dealer {
-    let end = MAX_LOG - [0, 1, 0, 7][round % 4];
     let len = [MAX_LEN, 4_096, 16_384, 65_532, 64][round % 5];
     let mut dealer = Dealer::new(rng, len);
+    near_limit_on(&mut dealer, round);
+    dealer
+}
+
+/// The same on a fresh pool of any sort.
+pub fn near_limit_on(dealer: &mut Dealer, round: usize) {
+    let end = MAX_LOG - [0, 1, 0, 7][round % 4];
     while dealer.log.len() + LONGEST_RECORD < end {
-        put_busy(&mut dealer);
+        put_busy(dealer);
     }
     while dealer.log.len() < end {
         dealer.tick();
     }
-    dealer
 }
 
 /// A record that keeps the pool well filled and the queue moving.

@@ -2,15 +2,22 @@
 //! of runs without any header bytes, and tools that replay, write, deal and
 //! compare logs of calls.
 
+pub mod attributes;
 pub mod check;
 pub mod codes;
 pub mod compare;
+pub mod compare_kinds;
 pub mod compare_write;
 pub mod coverage;
 pub mod damage;
 pub mod deal;
 pub mod dealer;
 pub mod hex;
+pub mod kinds;
+pub mod kinds_case;
+pub mod kinds_coverage;
+pub mod kinds_deal;
+pub mod kinds_edges;
 pub mod large;
 pub mod log;
 pub mod number;

@@ -6,10 +6,13 @@ use std::process::ExitCode;
 
 use second::check::check_folder;
 use second::compare::{compare, Cases, Finding, Logs, Texts};
+use second::compare_kinds::KindsCases;
 use second::compare_write::Requests;
 use second::coverage::Coverage;
 use second::deal::deal;
 use second::hex::to_hex;
+use second::kinds_case::{kinds_text, MAX_CASE};
+use second::kinds_deal::deal_case;
 use second::replay::{reasons_text, replay_text, Text, MAX_LOG};
 use second::request::{reply, MAX_REQUEST};
 use second::timing::best_times;
@@ -18,11 +21,14 @@ use second::workload::{ticks, workload};
 const USAGE: &str = "usage:
   second replay < LOG
   second reasons < LOG
+  second kinds < CASE
   second write < REQUEST
   second deal SEED COUNT
   second count SEED COUNT
+  second count-kinds SEED COUNT
   second compare PROGRAM SEED COUNT [LOG_FILE..]
   second compare-reasons PROGRAM SEED COUNT [LOG_FILE..]
+  second compare-kinds PROGRAM SEED COUNT [LOG_FILE..]
   second compare-write PROGRAM SEED COUNT [LOG_FILE..]
   second check FOLDER [PROGRAM]
   second workload full|small|waiters|mixed
@@ -52,13 +58,16 @@ fn main() -> ExitCode {
 fn run(arguments: &[String]) -> io::Result<Option<ExitCode>> {
     let words: Vec<&str> = arguments.iter().map(String::as_str).collect();
     match words.as_slice() {
-        ["replay"] => write_text(replay_text).map(Some),
-        ["reasons"] => write_text(reasons_text).map(Some),
+        ["replay"] => write_text(replay_text, MAX_LOG).map(Some),
+        ["reasons"] => write_text(reasons_text, MAX_LOG).map(Some),
+        ["kinds"] => write_text(kinds_text, MAX_CASE).map(Some),
         ["write"] => write_reply().map(Some),
         ["deal", seed, count] => with_numbers(seed, count, deal_logs),
         ["count", seed, count] => with_numbers(seed, count, count_logs),
+        ["count-kinds", seed, count] => with_numbers(seed, count, count_cases),
         ["compare", rest @ ..] => compare_texts(replay_text, rest),
         ["compare-reasons", rest @ ..] => compare_texts(reasons_text, rest),
+        ["compare-kinds", rest @ ..] => compare_with(kinds_texts, rest),
         ["compare-write", rest @ ..] => compare_with(Requests::new, rest),
         ["check", folder] => check(folder, None).map(Some),
         ["check", folder, program] => check(folder, Some(Path::new(program))).map(Some),
@@ -90,10 +99,10 @@ fn read_input(most: usize) -> io::Result<Vec<u8>> {
     Ok(input)
 }
 
-/// Writes the text of the log on standard input.
-fn write_text(text: Text) -> io::Result<ExitCode> {
-    let log = read_input(MAX_LOG)?;
-    io::stdout().lock().write_all(text(&log).as_bytes())?;
+/// Writes the text of standard input, which is too long above `most` bytes.
+fn write_text(text: Text, most: usize) -> io::Result<ExitCode> {
+    let input = read_input(most)?;
+    io::stdout().lock().write_all(text(&input).as_bytes())?;
     Ok(ExitCode::SUCCESS)
 }
 
@@ -118,6 +127,18 @@ fn count_logs(seed: u64, count: u64) -> io::Result<ExitCode> {
     for index in 0..count {
         coverage.add_log(&deal(seed, index));
     }
+    write_counts(&coverage)
+}
+
+fn count_cases(seed: u64, count: u64) -> io::Result<ExitCode> {
+    let mut coverage = Coverage::default();
+    for index in 0..count {
+        coverage.add_case(&deal_case(seed, index));
+    }
+    write_counts(&coverage)
+}
+
+fn write_counts(coverage: &Coverage) -> io::Result<ExitCode> {
     let mut out = BufWriter::new(io::stdout().lock());
     for (name, number) in &coverage.counts {
         writeln!(out, "{number:>9} {name}")?;
@@ -131,7 +152,14 @@ fn count_logs(seed: u64, count: u64) -> io::Result<ExitCode> {
 
 /// Compares a program with a text; `None` if the arguments are wrong.
 fn compare_texts(text: Text, arguments: &[&str]) -> io::Result<Option<ExitCode>> {
-    compare_with(|logs| Texts { text, logs }, arguments)
+    compare_with(|inputs| Texts { text, inputs }, arguments)
+}
+
+fn kinds_texts(logs: Logs) -> Texts<KindsCases> {
+    Texts {
+        text: kinds_text,
+        inputs: KindsCases::new(logs),
+    }
 }
 
 /// Compares a program on the cases of logs; `None` if the arguments are wrong.

@@ -1,6 +1,8 @@
 //! The pool and its calls.
 
+use crate::attributes::Attributes;
 use crate::codes::{E_CTX, E_ID, E_OBJ, E_OK, E_PAR, E_RLWAI, E_TMOUT, NO_REASON, WAITING};
+use crate::kinds::Kinds;
 use crate::queue::{Queue, Waiter};
 use crate::runs::{Refusal, Runs, HEADER, MIN_RUN};
 
@@ -83,18 +85,22 @@ pub struct Inquiry {
 #[derive(Clone, Debug, PartialEq, Eq)]
 pub struct Pool {
     len: u32,
+    attributes: Attributes,
+    kinds: Option<Kinds>,
     runs: Runs,
     queue: Queue,
 }
 
 impl Pool {
     /// Creates a pool of `len` bytes, or answers the refusing code.
-    pub fn create(len: u32) -> Result<Pool, i32> {
+    pub fn create(len: u32, attributes: Attributes) -> Result<Pool, i32> {
         if !(MIN_RUN..=MAX_LEN).contains(&len) || !len.is_multiple_of(4) {
             return Err(E_PAR);
         }
         Ok(Pool {
             len,
+            attributes,
+            kinds: attributes.kinds_in_use(len)?,
             runs: Runs::new(len),
             queue: Queue::default(),
         })
@@ -109,6 +115,15 @@ impl Pool {
         false
     }
 
+    pub fn attributes(&self) -> Attributes {
+        self.attributes
+    }
+
+    /// The kinds in use, or `None` in a pool without kinds.
+    pub fn kinds(&self) -> Option<Kinds> {
+        self.kinds
+    }
+
     pub fn runs(&self) -> &Runs {
         &self.runs
     }
@@ -119,7 +134,10 @@ impl Pool {
 
     /// The greatest size a task may ask.
     pub fn max_size(&self) -> u32 {
-        self.len - HEADER
+        match self.kinds {
+            None => self.len - HEADER,
+            Some(_) => self.attributes.greatest,
+        }
     }
 
     /// Asks for a block. A limit of -1 waits without end, 0 polls, and n ends
@@ -129,7 +147,7 @@ impl Pool {
             return Answer::code(code);
         }
         if self.queue.is_empty() {
-            if let Some(offset) = self.runs.grant(task, need(size)) {
+            if let Some(offset) = self.grant(task, size) {
                 return Answer::granted(offset);
             }
         }
@@ -207,11 +225,29 @@ impl Pool {
         Ok(())
     }
 
+    /// Grants a request that has passed the tests, if a run fits, and answers
+    /// the offset.
+    fn grant(&mut self, task: u32, size: u32) -> Option<u32> {
+        self.runs.grant(task, self.need(size))
+    }
+
+    /// Bytes a request takes: its size rounded up, plus 8. Rounding is to a
+    /// multiple of 4, or to the smallest kind in use.
+    fn need(&self, size: u32) -> u32 {
+        let rounded = match self.kinds {
+            None => size.next_multiple_of(4),
+            Some(kinds) => kinds
+                .round_up(size)
+                .expect("the top kind holds every allowed size"),
+        };
+        rounded + HEADER
+    }
+
     /// Serves the queue from its head and stops at the first request that does
     /// not fit. Appends the served tasks to `woken`.
     fn serve(&mut self, mut woken: Vec<Woken>) -> Vec<Woken> {
         while let Some(&Waiter { task, size, .. }) = self.queue.head() {
-            let Some(offset) = self.runs.grant(task, need(size)) else {
+            let Some(offset) = self.grant(task, size) else {
                 break;
             };
             self.queue.pop_head();
@@ -227,11 +263,6 @@ impl Pool {
 
 fn is_task(task: u32) -> bool {
     (1..=MAX_TASK).contains(&task)
-}
-
-/// Bytes a request takes: its size rounded up to a multiple of 4, plus 8.
-fn need(size: u32) -> u32 {
-    size.next_multiple_of(4) + HEADER
 }
 
 /// Ticks an entry starts with, one more than the limit; a negative limit has

@@ -2,6 +2,7 @@
 
 use std::fmt::Write;
 
+use crate::attributes::Attributes;
 use crate::log::{read_record, Fault, Reading, Record};
 use crate::number::{read_number, NumberFault};
 use crate::pool::{Answer, Pool};
@@ -9,7 +10,7 @@ use crate::pool::{Answer, Pool};
 /// The greatest length of a log.
 pub const MAX_LOG: usize = 65_536;
 
-/// Makes a text of a log.
+/// Makes a text of a log, or of another input.
 pub type Text = fn(&[u8]) -> String;
 
 /// Why a log cannot be started.
@@ -19,7 +20,7 @@ pub enum StartFault {
     TooLong,
     /// The pool length cannot be read.
     BadLength(NumberFault),
-    /// Create refused the pool length with this code.
+    /// Create refused the pool length or the attributes with this code.
     Refused(i32),
 }
 
@@ -41,12 +42,12 @@ pub struct Replay<'a> {
 
 impl<'a> Replay<'a> {
     /// Reads the pool length and creates the pool.
-    pub fn start(log: &'a [u8]) -> Result<Replay<'a>, StartFault> {
+    pub fn start(attributes: Attributes, log: &'a [u8]) -> Result<Replay<'a>, StartFault> {
         if log.len() > MAX_LOG {
             return Err(StartFault::TooLong);
         }
         let (len, place) = read_number(log).map_err(StartFault::BadLength)?;
-        let pool = Pool::create(len).map_err(StartFault::Refused)?;
+        let pool = Pool::create(len, attributes).map_err(StartFault::Refused)?;
         Ok(Replay { log, place, pool })
     }
 
@@ -80,7 +81,12 @@ pub fn apply(pool: &mut Pool, record: Record) -> Answer {
 
 /// The whole text a log gives, each line ended by a newline.
 pub fn replay_text(log: &[u8]) -> String {
-    let mut replay = match Replay::start(log) {
+    text_on(Attributes::default(), log)
+}
+
+/// The whole text a log gives on a pool with these attributes.
+pub fn text_on(attributes: Attributes, log: &[u8]) -> String {
+    let mut replay = match Replay::start(attributes, log) {
         Ok(replay) => replay,
         Err(StartFault::TooLong) => return "log too long\n".to_string(),
         Err(StartFault::BadLength(_)) => return "bad log at 0\n".to_string(),
@@ -102,7 +108,7 @@ pub fn replay_text(log: &[u8]) -> String {
 /// A line `reason place` for each record that is carried out.
 pub fn reasons_text(log: &[u8]) -> String {
     let mut text = String::new();
-    let Ok(mut replay) = Replay::start(log) else {
+    let Ok(mut replay) = Replay::start(Attributes::default(), log) else {
         return text;
     };
     while let Step::Done(_, answer) = replay.step() {

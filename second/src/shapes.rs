@@ -1,4 +1,5 @@
-//! Small valid logs, each made to reach certain states.
+//! Small valid logs, each made to reach certain states. A shape that ends in
+//! `_on` takes a dealer with a fresh pool of any sort.
 
 use crate::dealer::Dealer;
 use crate::pool::{FOREVER, MAX_TASK, POLLING};
@@ -93,15 +94,16 @@ fn rest_before_block(dealer: &mut Dealer, rest: u32) {
 pub fn joins(mut rng: Rng) -> Dealer {
     let len = length(&mut rng, 60, 900);
     let mut dealer = Dealer::new(rng, len);
-    let mut offsets = Vec::new();
-    loop {
-        let (task, size) = (dealer.any_task(), dealer.rng.between(1, 30));
-        let answer = dealer.poll(task, size);
-        if answer.code != 0 {
-            break;
-        }
-        offsets.push(answer.offset);
-    }
+    joins_on(&mut dealer, |dealer| dealer.rng.between(1, 30));
+    dealer
+}
+
+/// The same with blocks of the sizes that `any_size` answers.
+pub fn joins_on(dealer: &mut Dealer, any_size: fn(&mut Dealer) -> u32) {
+    let mut offsets = dealer.fill(|dealer| {
+        let (task, size) = (dealer.any_task(), any_size(dealer));
+        dealer.poll(task, size)
+    });
     dealer.rng.shuffle(&mut offsets);
     for offset in offsets {
         dealer.release(offset);
@@ -113,14 +115,19 @@ pub fn joins(mut rng: Rng) -> Dealer {
             dealer.release(answer.offset);
         }
     }
-    dealer
 }
 
 /// A queue of 31 or 32 waiters, then records of every kind.
 pub fn long_queue(mut rng: Rng) -> Dealer {
     let len = length(&mut rng, 24, 2_048);
-    let count = rng.pick(&[31, 32, 32]);
     let mut dealer = Dealer::new(rng, len);
+    long_queue_on(&mut dealer);
+    dealer
+}
+
+/// The same where one block can fill the pool.
+pub fn long_queue_on(dealer: &mut Dealer) {
+    let count = dealer.rng.pick(&[31, 32, 32]);
     let (first, size) = (dealer.any_task(), dealer.pool.max_size());
     dealer.get(first, size, FOREVER);
     let tasks = dealer.shuffled_tasks();
@@ -135,15 +142,20 @@ pub fn long_queue(mut rng: Rng) -> Dealer {
     }
     let count = dealer.rng.between(10, 80);
     dealer.put_many(count);
-    dealer
 }
 
 /// Many waiters served by one release, cancel or tick.
 pub fn many_served(mut rng: Rng) -> Dealer {
     let waiters = rng.pick(&[2, 5, 16, 30, 31, 31]);
     let len = length(&mut rng, 32 * 24, 4_096);
-    let small = len / 40 - 8;
     let mut dealer = Dealer::new(rng, len);
+    many_served_on(&mut dealer, waiters);
+    dealer
+}
+
+/// The same where one block can fill the pool, which has at least 360 bytes.
+pub fn many_served_on(dealer: &mut Dealer, waiters: usize) {
+    let small = dealer.pool.len() / 40 - 8;
     let tasks = dealer.shuffled_tasks();
     let whole = dealer.pool.max_size();
     let way = dealer.rng.below(3);
@@ -169,7 +181,6 @@ pub fn many_served(mut rng: Rng) -> Dealer {
     };
     let count = dealer.rng.below(30);
     dealer.put_many(count);
-    dealer
 }
 
 /// Several waits that end in the same tick, with waiters served afterwards. The
@@ -177,6 +188,12 @@ pub fn many_served(mut rng: Rng) -> Dealer {
 pub fn many_timeouts(mut rng: Rng) -> Dealer {
     let len = length(&mut rng, 64, 1_024);
     let mut dealer = Dealer::new(rng, len);
+    many_timeouts_on(&mut dealer);
+    dealer
+}
+
+/// The same where one block can fill the pool.
+pub fn many_timeouts_on(dealer: &mut Dealer) {
     let tasks = dealer.shuffled_tasks();
     let held = dealer.rng.between(1, dealer.pool.max_size());
     dealer.get(tasks[0], held, FOREVER);
@@ -203,7 +220,6 @@ pub fn many_timeouts(mut rng: Rng) -> Dealer {
         let count = dealer.rng.below(3);
         dealer.put_many(count);
     }
-    dealer
 }
 
 /// A wait of several dozen ticks that ends neither early nor late: the last
@@ -268,12 +284,18 @@ pub fn same_end(mut rng: Rng) -> Dealer {
 /// Cancels at each place of a queue; every cancelled task asks again.
 pub fn cancels(mut rng: Rng) -> Dealer {
     let len = length(&mut rng, 16, 512);
-    let waiters = if rng.chance(50) {
+    let mut dealer = Dealer::new(rng, len);
+    cancels_on(&mut dealer);
+    dealer
+}
+
+/// The same where one block can fill the pool.
+pub fn cancels_on(dealer: &mut Dealer) {
+    let waiters = if dealer.rng.chance(50) {
         MAX_TASK
     } else {
-        rng.between(1, MAX_TASK)
+        dealer.rng.between(1, MAX_TASK)
     } as usize;
-    let mut dealer = Dealer::new(rng, len);
     let tasks = dealer.shuffled_tasks();
     let size = dealer.pool.max_size();
     dealer.get(tasks[0], size, FOREVER);
@@ -296,5 +318,4 @@ pub fn cancels(mut rng: Rng) -> Dealer {
         dealer.get(task, size, limit);
     }
     dealer.put_many(15);
-    dealer
 }

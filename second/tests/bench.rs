@@ -5,6 +5,7 @@ mod common;
 use common::{
     after_b, after_c, after_e, answer, blocks, create, refused, times_left, waiting, woke,
 };
+use second::attributes::Attributes;
 use second::pool::{Inquiry, Pool, FOREVER};
 
 #[test]
@@ -108,14 +109,15 @@ fn example_l() {
 
 #[test]
 fn lengths() {
+    let create_plain = |len| Pool::create(len, Attributes::default());
     for len in [0, 8, 14, 65_540] {
-        assert_eq!(Pool::create(len), Err(-17), "length {len}");
+        assert_eq!(create_plain(len), Err(-17), "length {len}");
     }
     for len in [12, 16, 65_532, 65_536] {
         assert_eq!(blocks(&create(len)), [(len, 0)]);
     }
     for len in [1, 4, 11, 13, 65_534, 65_535, 65_537, u32::MAX] {
-        assert_eq!(Pool::create(len), Err(-17), "length {len}");
+        assert_eq!(create_plain(len), Err(-17), "length {len}");
     }
 }
 

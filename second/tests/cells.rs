@@ -3,16 +3,20 @@
 
 mod common;
 
-use common::random_state;
-use second::log::{read_record, Reading, Record};
-use second::number::read_number;
+use common::{dealt_case_logs, dealt_logs, need, PoolLog, State, STATES};
+use second::attributes::Attributes;
+use second::kinds_case::read_case;
+use second::kinds_edges::edge_cases;
+use second::log::Record;
 use second::pool::{Answer, Woken};
+use second::replay::{Replay, Step};
 
 const FREE: u32 = 0;
 const REST: u32 = 1_000;
 
 /// Each cell is free, the owner at a block's first cell, or the rest of one.
 struct Cells {
+    attributes: Attributes,
     cells: Vec<u32>,
     /// Task, size, and the ticks to pass before the one that ends the wait, or
     /// -1.
@@ -20,8 +24,9 @@ struct Cells {
 }
 
 impl Cells {
-    fn new(len: u32) -> Cells {
+    fn new(attributes: Attributes, len: u32) -> Cells {
         Cells {
+            attributes,
             cells: vec![FREE; len as usize / 4],
             waiters: Vec::new(),
         }
@@ -36,7 +41,7 @@ impl Cells {
     }
 
     fn take(&mut self, task: u32, size: u32) -> Option<u32> {
-        let need = (size as usize).div_ceil(4) + 2;
+        let need = need(self.attributes, size) as usize / 4;
         let mut places = 0..self.cells.len();
         let place = places.find(|&p| !self.continues(p) && self.free_from(p) >= need)?;
         let run = self.free_from(place);
@@ -68,11 +73,18 @@ impl Cells {
         self.waiters.iter().any(|waiter| waiter.0 == task)
     }
 
+    fn max_size(&self) -> u32 {
+        match self.attributes.kinds {
+            0 => 4 * self.cells.len() as u32 - 8,
+            _ => self.attributes.greatest,
+        }
+    }
+
     fn get(&mut self, task: u32, size: u32, limit: i64) -> Answer {
         if task == 0 || task > 32 {
             return common::answer(-18, 0);
         }
-        if size == 0 || size as usize > 4 * self.cells.len() - 8 {
+        if size == 0 || size > self.max_size() {
             return common::answer(-17, 0);
         }
         if self.waits(task) {
@@ -175,18 +187,16 @@ impl Cells {
     }
 }
 
-/// Runs a log on the cells and on a fresh pool.
-fn assert_same_answers(log: &[u8]) -> usize {
-    let (len, mut place) = read_number(log).expect("a length");
-    let mut cells = Cells::new(len);
-    let mut pool = second::pool::Pool::create(len).expect("an allowed length");
+/// Runs a log on a fresh pool, if it is created, and on the cells. Answers the
+/// count of its records.
+fn assert_same_answers((attributes, log): PoolLog) -> usize {
+    let Ok(mut replay) = Replay::start(attributes, &log) else {
+        return 0;
+    };
+    let mut cells = Cells::new(attributes, replay.pool().len());
     let mut records = 0;
-    while let Reading::Record(record, taken) = read_record(&log[place..]) {
-        assert_eq!(
-            second::replay::apply(&mut pool, record),
-            cells.apply(record)
-        );
-        place += taken;
+    while let Step::Done(record, answer) = replay.step() {
+        assert_eq!(answer, cells.apply(record));
         records += 1;
     }
     records
@@ -194,21 +204,38 @@ fn assert_same_answers(log: &[u8]) -> usize {
 
 #[test]
 fn cells_answer_alike() {
+    STATES.into_iter().for_each(assert_cells_answer_alike);
+}
+
+fn assert_cells_answer_alike(state: State) {
     let mut records = 0;
     for index in 0..1_500 {
-        let mut dealer = random_state(21, index);
+        let mut dealer = state(21, index);
         dealer.put_many(60);
-        records += assert_same_answers(&dealer.log);
+        records += assert_same_answers((dealer.pool.attributes(), dealer.log));
     }
     assert!(records > 100_000);
 }
 
 #[test]
-fn cells_answer_alike_on_dealt_logs() {
-    for index in (0..300).filter(|index| ![1, 5, 9].contains(&(index % 12))) {
-        let log = second::deal::deal(22, index);
-        if log.len() < 3_000 {
-            assert_same_answers(&log);
-        }
+fn cells_answer_alike_on_dealt_logs_and_cases() {
+    for logs in [
+        dealt_logs().collect::<Vec<_>>(),
+        dealt_case_logs().collect(),
+    ] {
+        let short = logs.into_iter().filter(|(_, log)| log.len() < 3_000);
+        let records: usize = short.map(assert_same_answers).sum();
+        assert!(records > 10_000, "{records}");
     }
+}
+
+#[test]
+fn cells_answer_alike_on_edge_cases() {
+    let cases = edge_cases();
+    let logs = cases.iter().filter_map(|case| read_case(case));
+    let short = logs.filter(|(_, log)| log.len() < 20_000);
+    let records: usize = short
+        .map(|(attributes, log)| assert_same_answers((attributes, log.to_vec())))
+        .sum();
+    assert!(records > 10_000, "{records}");
 }

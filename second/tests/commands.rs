@@ -9,7 +9,9 @@ use std::process::{Command, Output};
 use second::compare_write::log_case;
 use second::deal::deal;
 use second::hex::{from_hex, to_hex};
-use second::replay::{reasons_text, replay_text};
+use second::kinds_case::kinds_text;
+use second::kinds_edges::edge_cases;
+use second::replay::{reasons_text, replay_text, MAX_LOG};
 use second::request_edges::edge_requests;
 use second::rng::Rng;
 use second::workload::{workload, WORKLOADS};
@@ -93,6 +95,56 @@ fn compare_reasons(folder: &Path) {
     let log = fs::read(&file).expect("log read");
     assert!(report.contains(&to_hex(&log)) && report.contains(&reasons_text(&log)));
     assert_eq!(second(&["compare-reasons", &good]).status.code(), Some(2));
+}
+
+/// Gets of 1 and 37 bytes and a release, with kinds and without, and cases of
+/// the greatest length and above it.
+fn kinds_of_a_case(folder: &Path) {
+    let path = folder.join("case");
+    let text_of = |case: &[u8]| {
+        fs::write(&path, case).expect("case written");
+        on_log("kinds", &path)
+    };
+    let log = from_hex("5C 01 01 01 00 01 02 25 00 03 08").expect("hex digits");
+    let expected = "pool 92\n0 8\n1 0\n0 0\nw 2 0 8\nend 3 records\n";
+    assert_eq!(text_of(&[&[0x01, 0x54], &log[..]].concat()), expected);
+    let expected = "pool 92\n0 8\n0 20\n0 0\nend 3 records\n";
+    assert_eq!(text_of(&[&[0x00, 0x00], &log[..]].concat()), expected);
+    assert_eq!(text_of(&[&[0x80, 0x00], &log[..]].concat()), "");
+    let mut long = from_hex("FF FF FF FF 0F FF FF FF FF 0F 40").expect("hex digits");
+    long.resize(10 + MAX_LOG, 0x05);
+    assert_eq!(text_of(&long), "pool refused -17\n");
+    long.push(0x05);
+    assert_eq!(text_of(&long), "log too long\n");
+    assert_eq!(second(&["kinds", "1"]).status.code(), Some(2));
+}
+
+fn compare_kinds_equal(folder: &Path) {
+    let good = script(folder, "kinds", &format!("exec '{SECOND}' kinds"));
+    let file = folder.join("extra.log").display().to_string();
+    let output = second(&["compare-kinds", &good, "1", "60", &file, &file]);
+    let total = edge_cases().len() + 60 + 4;
+    assert_eq!(stdout(&output), format!("{total} passed, 0 failed\n"));
+    assert_eq!(output.status.code(), Some(0));
+    assert_eq!(second(&["compare-kinds", &good]).status.code(), Some(2));
+}
+
+/// A program that is wrong where create refuses.
+fn compare_kinds_different(folder: &Path) {
+    let body = format!("'{SECOND}' kinds | sed 's/^pool refused -17/pool 64/'");
+    let bad = script(folder, "no_refusal", &body);
+    let output = second(&["compare-kinds", &bad, "1", "0"]);
+    assert_eq!(output.status.code(), Some(1));
+    let report = stdout(&output);
+    let cases = edge_cases();
+    let refused = |case: &Vec<u8>| kinds_text(case) == "pool refused -17\n";
+    let first = cases.iter().position(refused).expect("some are refused");
+    let hex = to_hex(&cases[first]);
+    let expected = format!(
+        "case {first} differs at line 1 (exit status: 0)\ncase in hex:\n{hex}\n\
+         expected:\npool refused -17\nprogram:\npool 64\n\n"
+    );
+    assert_eq!(report, expected);
 }
 
 /// A get of 10 bytes by task 1 into a buffer of 8 bytes, and its reply. A byte
@@ -256,6 +308,7 @@ fn deal_and_count() {
         .collect();
     assert_eq!(stdout(&output), lines.concat());
     assert!(stdout(&second(&["count", "9", "20"])).contains("20 logs\n"));
+    assert!(stdout(&second(&["count-kinds", "9", "20"])).contains("20 cases\n"));
     assert_eq!(second(&["deal", "x", "20"]).status.code(), Some(2));
     assert_eq!(second(&[]).status.code(), Some(2));
 }
@@ -313,6 +366,9 @@ fn commands() {
     compare_other_faults(&folder);
     texts_of_a_log(&folder);
     compare_reasons(&folder);
+    kinds_of_a_case(&folder);
+    compare_kinds_equal(&folder);
+    compare_kinds_different(&folder);
     write_reply(&folder);
     compare_write_equal(&folder);
     compare_write_different(&folder);

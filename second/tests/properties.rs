@@ -1,8 +1,8 @@
-//! Properties of random runs.
+//! Properties of random runs, on pools without kinds and with them.
 
 mod common;
 
-use common::{random_state, woke};
+use common::{need, woke, State, STATES};
 use second::dealer::Dealer;
 use second::pool::{Answer, Pool, Woken, MAX_TASK};
 
@@ -24,6 +24,12 @@ fn assert_runs_sound(pool: &Pool) {
     assert!(runs
         .windows(2)
         .all(|pair| !(pair[0].is_free() && pair[1].is_free())));
+    if let Some(kinds) = pool.kinds() {
+        for run in pool.runs().live() {
+            let holds = |&kind: &u32| (kind + 8..=kind + 16).contains(&run.len);
+            assert!(kinds.as_slice().iter().any(holds), "{run:?}");
+        }
+    }
 }
 
 fn assert_queue_sound(pool: &Pool) {
@@ -38,15 +44,19 @@ fn assert_queue_sound(pool: &Pool) {
             .is_none_or(|left| (1..=2_147_483_648).contains(&left)));
     }
     if let Some(head) = pool.queue().head() {
-        let need = head.size.div_ceil(4) * 4 + 8;
+        let need = need(pool.attributes(), head.size);
         assert!(pool.runs().free().all(|run| run.len < need));
     }
 }
 
 #[test]
 fn every_state_is_sound() {
+    STATES.into_iter().for_each(assert_states_sound);
+}
+
+fn assert_states_sound(state: State) {
     for index in 0..300 {
-        let mut dealer = random_state(11, index);
+        let mut dealer = state(11, index);
         for _ in 0..60 {
             dealer.put_any();
             assert_runs_sound(&dealer.pool);
@@ -57,9 +67,13 @@ fn every_state_is_sound() {
 
 #[test]
 fn refusals_change_nothing() {
+    STATES.into_iter().for_each(assert_refusals_change_nothing);
+}
+
+fn assert_refusals_change_nothing(state: State) {
     let mut refused = 0;
     for index in 0..300 {
-        let mut dealer = random_state(12, index);
+        let mut dealer = state(12, index);
         for _ in 0..40 {
             let before = dealer.pool.clone();
             let answer = dealer.put_any();
@@ -75,8 +89,12 @@ fn refusals_change_nothing() {
 
 #[test]
 fn a_get_that_waits_changes_the_queue_only() {
+    STATES.into_iter().for_each(assert_waits_change_the_queue);
+}
+
+fn assert_waits_change_the_queue(state: State) {
     for index in 0..300 {
-        let mut dealer = random_state(13, index);
+        let mut dealer = state(13, index);
         for _ in 0..40 {
             let before = dealer.pool.clone();
             let answer = dealer.put_any();
@@ -157,9 +175,13 @@ fn empty_queue(dealer: &mut Dealer) {
 
 #[test]
 fn a_cancelled_wait_leaves_no_mark() {
+    STATES.into_iter().for_each(assert_cancels_leave_no_mark);
+}
+
+fn assert_cancels_leave_no_mark(state: State) {
     let (mut cases, mut served, mut refusals) = (0, 0, 0);
     for index in 0..6_000 {
-        let mut dealer = random_state(14, index);
+        let mut dealer = state(14, index);
         if index % 2 == 0 {
             empty_queue(&mut dealer);
         }
@@ -191,9 +213,13 @@ fn a_cancelled_wait_leaves_no_mark() {
 
 #[test]
 fn a_release_at_once_restores_the_state() {
+    STATES.into_iter().for_each(assert_releases_restore);
+}
+
+fn assert_releases_restore(state: State) {
     let mut cases = 0;
     for index in 0..4_000 {
-        let mut dealer = random_state(15, index);
+        let mut dealer = state(15, index);
         let before = dealer.pool.clone();
         let (task, size) = (dealer.any_task(), dealer.size());
         let limit = dealer.limit();
@@ -212,22 +238,36 @@ fn a_release_at_once_restores_the_state() {
     assert!(cases > 500, "{cases}");
 }
 
+/// The greatest size that a run with this room holds, or 0.
+fn greatest_held(pool: &Pool, room: u32) -> u32 {
+    let Some(kinds) = pool.kinds() else {
+        return room;
+    };
+    let held = kinds.as_slice().iter().rev().find(|&&kind| kind <= room);
+    held.map_or(0, |&kind| kind.min(pool.max_size()))
+}
+
 #[test]
 fn inquire_changes_nothing_and_matches_poll() {
+    STATES.into_iter().for_each(assert_inquire_matches_poll);
+}
+
+fn assert_inquire_matches_poll(state: State) {
     for index in 0..1_000 {
-        let mut dealer = random_state(16, index);
+        let mut dealer = state(16, index);
         let before = dealer.pool.clone();
         let inquiry = dealer.pool.inquire();
         assert_eq!(dealer.pool, before);
         let Some(task) = dealer.idle_task() else {
             continue;
         };
-        if inquiry.head_task == 0 && inquiry.free_max > 0 {
-            assert_eq!(dealer.pool.poll(task, inquiry.free_max).code, 0);
+        let held = greatest_held(&before, inquiry.free_max);
+        if inquiry.head_task == 0 && held > 0 {
+            assert_eq!(dealer.pool.poll(task, held).code, 0);
         }
         let mut again = before;
-        if inquiry.head_task != 0 || inquiry.free_max < again.max_size() {
-            let size = (inquiry.free_max + 1).min(again.max_size());
+        if inquiry.head_task != 0 || held < again.max_size() {
+            let size = (held + 1).min(again.max_size());
             assert_eq!(again.poll(task, size).code, -50);
         }
     }

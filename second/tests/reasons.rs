@@ -4,7 +4,8 @@ mod common;
 
 use std::iter::repeat_n;
 
-use common::{answer, blocks, random_state, refused, woke};
+use common::{answer, blocks, create, random_state, refused, woke};
+use second::attributes::Attributes;
 use second::deal::deal;
 use second::log::Record;
 use second::pool::{Pool, FOREVER};
@@ -14,10 +15,6 @@ use second::replay::{Replay, Step};
 const N: u32 = 112;
 /// Lengths of other pools, the least and the greatest included.
 const LENGTHS: [u32; 5] = [12, 16, 64, 65_532, 65_536];
-
-fn create(len: u32) -> Pool {
-    Pool::create(len).expect("the length is allowed")
-}
 
 /// Seven live blocks of 16 bytes.
 fn live() -> Pool {
@@ -243,7 +240,7 @@ fn other_answers_have_no_reason() {
 
 /// Refused releases of a log; every other answer must have reason 0, place 0.
 fn refused_releases(log: &[u8]) -> usize {
-    let Ok(mut replay) = Replay::start(log) else {
+    let Ok(mut replay) = Replay::start(Attributes::default(), log) else {
         return 0;
     };
     let mut refusals = 0;

@@ -2,7 +2,11 @@
 
 mod common;
 
-use common::{answer, dealt_logs, logs_with_ticks, refused, times_left, waiting, woke};
+use common::{
+    answer, create, dealt_case_logs, dealt_logs, logs_with_ticks, refused, times_left, waiting,
+    woke, PoolLog, State, STATES,
+};
+use second::attributes::Attributes;
 use second::log::Record;
 use second::pool::{Pool, FOREVER};
 use second::replay::{Replay, Step};
@@ -12,7 +16,7 @@ use second::waits::{Wait, Waits};
 
 /// A pool of 64 bytes that task 1 holds as one block at 8.
 fn full() -> Pool {
-    let mut pool = Pool::create(64).expect("the length is allowed");
+    let mut pool = create(64);
     assert_eq!(pool.get(1, 56, FOREVER), answer(0, 8));
     pool
 }
@@ -173,9 +177,9 @@ fn is_in_time(wait: &Wait) -> bool {
 
 /// Runs a log and answers its expired waits. Each must have passed as many ticks
 /// as its limit and ended in the next; all others must be in time.
-fn expired_waits(log: &[u8]) -> Vec<Wait> {
+fn expired_waits((attributes, log): PoolLog) -> Vec<Wait> {
     let (mut waits, mut expired) = (Waits::default(), Vec::new());
-    let Ok(mut replay) = Replay::start(log) else {
+    let Ok(mut replay) = Replay::start(attributes, &log) else {
         return expired;
     };
     while let Step::Done(record, answer) = replay.step() {
@@ -194,9 +198,11 @@ fn expired_waits(log: &[u8]) -> Vec<Wait> {
 
 #[test]
 fn every_wait_ends_in_its_tick() {
-    let expired: Vec<Wait> = logs_with_ticks()
-        .flat_map(|log| expired_waits(&log))
-        .collect();
+    STATES.into_iter().for_each(assert_waits_end_in_their_ticks);
+}
+
+fn assert_waits_end_in_their_ticks(state: State) {
+    let expired: Vec<Wait> = logs_with_ticks(state).flat_map(expired_waits).collect();
     for limit in 1..=4 {
         let ended = expired.iter().filter(|wait| wait.limit == limit).count();
         assert!(ended > 200, "limit {limit}: {ended}");
@@ -208,13 +214,19 @@ fn every_wait_ends_in_its_tick() {
 
 #[test]
 fn every_wait_of_a_dealt_log_ends_in_its_tick() {
-    let expired: usize = dealt_logs().map(|log| expired_waits(&log).len()).sum();
+    let expired = dealt_logs().flat_map(expired_waits).count();
+    assert!(expired > 500, "{expired}");
+}
+
+#[test]
+fn every_wait_of_a_dealt_case_ends_in_its_tick() {
+    let expired = dealt_case_logs().flat_map(expired_waits).count();
     assert!(expired > 500, "{expired}");
 }
 
 /// Tasks that expire in each tick of a log.
 fn expired_by_tick(log: &[u8]) -> Vec<Vec<u32>> {
-    let mut replay = Replay::start(log).expect("the pool is created");
+    let mut replay = Replay::start(Attributes::default(), log).expect("the pool is created");
     let mut ticks = Vec::new();
     while let Step::Done(record, answer) = replay.step() {
         if record == Record::Tick {
@@ -232,7 +244,7 @@ fn long_wait_has_a_tick_after_its_end() {
         let ticks = expired_by_tick(&log);
         let end = ticks.iter().position(|tasks| tasks.contains(&2));
         assert!(end.is_some_and(|end| end + 1 < ticks.len()), "log {index}");
-        expired_waits(&log);
+        expired_waits((Attributes::default(), log));
     }
 }
 
@@ -246,6 +258,6 @@ fn same_end_ends_all_its_waits_in_one_tick() {
         let tasks: Vec<u32> = (1..=longest as u32).rev().collect();
         assert_eq!(ticks[longest], tasks, "log {index}");
         assert!(longest + 1 < ticks.len(), "log {index}");
-        expired_waits(&log);
+        expired_waits((Attributes::default(), log));
     }
 }

@@ -6,7 +6,10 @@ mod common;
 
 use std::collections::{BTreeMap, BTreeSet};
 
-use common::{after_e, answer, blocks, create, dealt_logs, logs_with_ticks, waiting, woke};
+use common::{
+    after_e, answer, blocks, create, create_with_kinds, dealt_case_logs, dealt_logs,
+    logs_with_ticks, random_kinds_state, random_state, waiting, woke, PoolLog,
+};
 use second::log::Record;
 use second::pool::{Answer, Pool, Woken, FOREVER, MAX_TASK};
 use second::replay::{apply, Replay, Step};
@@ -146,8 +149,8 @@ impl Tally {
     }
 
     /// Checks every wait of a log, if it can be started.
-    fn add_log(&mut self, log: &[u8]) {
-        let Ok(mut replay) = Replay::start(log) else {
+    fn add_log(&mut self, (attributes, log): PoolLog) {
+        let Ok(mut replay) = Replay::start(attributes, &log) else {
             return;
         };
         let mut observer = Observer::new(replay.pool());
@@ -156,31 +159,45 @@ impl Tally {
         }
         self.add(&observer.served, replay.pool().len());
     }
+
+    /// Checks that the counts are above these, that of the lengths last.
+    fn assert_above(&self, least: [usize; 4]) {
+        let counts = [
+            self.served,
+            self.at_deadline,
+            self.after_several,
+            self.lengths.len(),
+        ];
+        let mut pairs = counts.iter().zip(&least);
+        assert!(pairs.all(|(count, least)| count > least), "{counts:?}");
+    }
 }
 
 /// Checks every wait of several logs.
-fn tally(logs: impl Iterator<Item = Vec<u8>>) -> Tally {
+fn tally(logs: impl Iterator<Item = PoolLog>) -> Tally {
     let mut tally = Tally::default();
-    logs.for_each(|log| tally.add_log(&log));
+    logs.for_each(|log| tally.add_log(log));
     tally
 }
 
 #[test]
 fn every_wait_is_served_within_its_bound() {
-    let tally = tally(logs_with_ticks());
-    assert!(tally.served > 17_000, "{tally:?}");
-    assert!(tally.at_deadline > 7_500, "{tally:?}");
-    assert!(tally.after_several > 5_000, "{tally:?}");
-    assert!(tally.lengths.len() > 350, "{tally:?}");
+    tally(logs_with_ticks(random_state)).assert_above([17_000, 7_500, 5_000, 350]);
+}
+
+#[test]
+fn every_wait_with_kinds_is_served_within_its_bound() {
+    tally(logs_with_ticks(random_kinds_state)).assert_above([13_000, 1_600, 1_200, 1_000]);
 }
 
 #[test]
 fn every_wait_of_a_dealt_log_is_served_within_its_bound() {
-    let tally = tally(dealt_logs());
-    assert!(tally.served > 11_000, "{tally:?}");
-    assert!(tally.at_deadline > 550, "{tally:?}");
-    assert!(tally.after_several > 350, "{tally:?}");
-    assert!(tally.lengths.len() > 130, "{tally:?}");
+    tally(dealt_logs()).assert_above([11_000, 550, 350, 130]);
+}
+
+#[test]
+fn every_wait_of_a_dealt_case_is_served_within_its_bound() {
+    tally(dealt_case_logs()).assert_above([11_000, 250, 180, 110]);
 }
 
 /// The task that joins at a place of the queue, the head being at 1. No task has
@@ -189,13 +206,22 @@ fn task_at(place: u32) -> u32 {
     MAX_TASK + 1 - place
 }
 
-/// A pool that `live` blocks of 12 bytes fill, the last one larger by `rest`,
-/// and in which as many tasks as `waiters` wait for the whole pool.
-fn filled(live: u32, rest: u32, waiters: u32) -> Pool {
-    let mut pool = create(12 * live + rest);
+/// The lengths of the smallest block without kinds and with them.
+const PLAIN: u32 = 12;
+const FIRST_KIND: u32 = 20;
+
+/// The offset of a block, counted from 1, if all before it have this length.
+fn offset_of(block: u32, block_len: u32) -> u32 {
+    block_len * (block - 1) + 8
+}
+
+/// Fills a fresh pool with `live` blocks of this length, the last one a little
+/// larger where bytes are left, and lets as many tasks as `waiters` wait for the
+/// greatest size, which takes the whole pool.
+fn filled(mut pool: Pool, block_len: u32, live: u32, waiters: u32) -> Pool {
     for block in 1..=live {
-        let size = if block == live { 4 + rest } else { 4 };
-        assert_eq!(pool.get(1, size, FOREVER), answer(0, 12 * block - 4));
+        let offset = offset_of(block, block_len);
+        assert_eq!(pool.get(1, block_len - 8, FOREVER), answer(0, offset));
     }
     let whole = pool.max_size();
     for place in 1..=waiters {
@@ -206,13 +232,14 @@ fn filled(live: u32, rest: u32, waiters: u32) -> Pool {
 
 /// Releases the blocks from the front, then the one at 8 again and again. The
 /// release `live` serves the head, each one after it the next waiter.
-fn assert_bound_is_reached(live: u32, rest: u32, place: u32) {
-    let mut pool = filled(live, rest, place);
+fn assert_bound_is_reached(fresh: &Pool, block_len: u32, live: u32, place: u32) {
+    let mut pool = filled(fresh.clone(), block_len, live, place);
     assert_eq!(pool.runs().free().count(), 0);
     let mut observer = Observer::new(&pool);
     let (last, mut expected) = (live + place - 1, Vec::new());
     for release in 1..=last {
-        let offset = if release <= live { 12 * release - 4 } else { 8 };
+        let block = if release <= live { release } else { 1 };
+        let offset = offset_of(block, block_len);
         let answer = call(&mut pool, &mut observer, Record::Release { offset });
         if release < live {
             assert_eq!(answer, woke(&[]), "release {release} of {last}");
@@ -231,7 +258,28 @@ fn the_bound_is_reached_exactly() {
     for live in 1..=20 {
         for place in 1..=MAX_TASK {
             for rest in [0, 4, 8] {
-                assert_bound_is_reached(live, rest, place);
+                let fresh = create(12 * live + rest);
+                assert_bound_is_reached(&fresh, PLAIN, live, place);
+            }
+        }
+    }
+}
+
+/// Lengths that blocks of the first kind fill, and that a block of the top kind
+/// fills too.
+#[test]
+fn the_bound_is_reached_exactly_with_kinds() {
+    for (live, greatest, lens) in [
+        (1, 12, &[20, 24, 28][..]),
+        (2, 36, &[44, 48]),
+        (9, 180, &[188]),
+        (19, 372, &[380, 384, 388]),
+        (38, 756, &[764, 768]),
+    ] {
+        for &len in lens {
+            let fresh = create_with_kinds(len, greatest);
+            for place in 1..=MAX_TASK {
+                assert_bound_is_reached(&fresh, FIRST_KIND, live, place);
             }
         }
     }
@@ -241,13 +289,13 @@ fn the_bound_is_reached_exactly() {
 #[test]
 fn smaller_requests_do_not_delay_the_head() {
     for live in 2..=20 {
-        let mut pool = filled(live, 0, 1);
+        let mut pool = filled(create(12 * live), PLAIN, live, 1);
         for place in 2..=MAX_TASK {
             assert_eq!(pool.get(task_at(place), 4, FOREVER), answer(1, 0));
         }
         let mut observer = Observer::new(&pool);
         for release in 1..=live {
-            let offset = 12 * release - 4;
+            let offset = offset_of(release, PLAIN);
             call(&mut pool, &mut observer, Record::Release { offset });
             assert_eq!(waiting(&pool).contains(&task_at(1)), release < live);
         }

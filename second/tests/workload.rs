@@ -1,5 +1,6 @@
 //! The workloads have their length and reach their states.
 
+use second::attributes::Attributes;
 use second::coverage::Coverage;
 use second::log::Record;
 use second::pool::Pool;
@@ -19,7 +20,7 @@ fn coverage(name: &str) -> Coverage {
 /// Runs a workload and shows each record with the pool after it.
 fn each_record(name: &str, mut show: impl FnMut(Record, &Pool)) {
     let log = log(name);
-    let mut replay = Replay::start(&log).expect("the pool is created");
+    let mut replay = Replay::start(Attributes::default(), &log).expect("the pool is created");
     while let Step::Done(record, _) = replay.step() {
         show(record, replay.pool());
     }

@@ -1,7 +1,9 @@
 // The calls of the pool, each written with its numbers and what it answers.
 use crate::show;
 use model::Answer;
+use model::Attributes;
 use model::BlockOffset;
+use model::DEFAULTS;
 use model::Queue;
 
 fn told(a: Answer) -> Queue {
@@ -13,7 +15,24 @@ fn told(a: Answer) -> Queue {
 pub fn create(buffer: &mut [u8]) -> Queue {
     show::text(b"create");
     show::number(buffer.len());
-    told(pool::create(buffer))
+    told(pool::create(buffer, DEFAULTS))
+}
+
+// With the choice and the greatest request given, and written with what the queue keeps.
+pub fn create_with(buffer: &mut [u8], kinds: u32, greatest: u32) -> Queue {
+    show::text(b"create");
+    show::number(buffer.len());
+    show::number(kinds as usize);
+    show::number(greatest as usize);
+    let queue = told(pool::create(
+        buffer,
+        Attributes {
+            kinds: kinds,
+            greatest: greatest,
+        },
+    ));
+    show::kept(queue);
+    queue
 }
 
 pub fn get(buffer: &mut [u8], queue: Queue, task: u32, size: u32, limit: i32) -> Queue {

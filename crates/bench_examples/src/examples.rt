@@ -1,12 +1,13 @@
 // Examples a to l.
 use crate::calls;
 use crate::show;
+use model::DEFAULTS;
 use model::Queue;
 
 // ---- the states that other examples begin with, left without writing a line
 
 pub fn after_b(buffer: &mut [u8; 64]) -> Queue {
-    let a = pool::create(buffer);
+    let a = pool::create(buffer, DEFAULTS);
     let b = pool::get(buffer, a.queue, 1, 10, -1);
     b.queue
 }

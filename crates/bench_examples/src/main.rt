@@ -1,7 +1,8 @@
-// The bench examples of document 01, run by the proved calls. Each call is written with what it answers; the file `stdout` has what document 01 expects.
+// The bench examples of document 01, and size kinds, run by the proved calls. Each call is written with what it answers; the file `stdout` has what document 01 expects.
 mod blocks;
 mod calls;
 mod examples;
+mod kinds;
 mod refusals;
 mod serving;
 mod show;
@@ -11,4 +12,5 @@ fn main() {
     refusals::run();
     serving::run();
     blocks::run();
+    kinds::run();
 }

@@ -2,6 +2,7 @@
 use crate::calls;
 use crate::examples;
 use crate::show;
+use model::DEFAULTS;
 use model::Entry;
 use model::Queue;
 
@@ -68,7 +69,7 @@ fn others(buffer: &mut [u8; 64]) {
 // ---- states that are not sound
 
 // Every call but create; task 33 would be refused by a later test.
-fn all_calls(buffer: &mut [u8; 64], spoiled: Queue) {
+pub fn all_calls(buffer: &mut [u8; 64], spoiled: Queue) {
     let a = calls::get(buffer, spoiled, 33, 4, -1);
     let b = calls::poll(buffer, a, 33, 4);
     let c = calls::release(buffer, b, 8);
@@ -95,7 +96,13 @@ fn spoiled_queue(buffer: &mut [u8; 64], size: u32, left: u32) {
         size: size,
         left: left,
     };
-    all_calls(buffer, Queue { entries: entries });
+    all_calls(
+        buffer,
+        Queue {
+            attributes: DEFAULTS,
+            entries: entries,
+        },
+    );
 }
 
 pub fn run() {

@@ -68,6 +68,15 @@ fn entry(e: Entry) {
     }
 }
 
+// The choice and the greatest request that the queue keeps.
+pub fn kept(q: Queue) {
+    let attributes = q.attributes;
+    text(b"kept");
+    number(attributes.kinds as usize);
+    number(attributes.greatest as usize);
+    text(b"\n");
+}
+
 pub fn queue(q: Queue) {
     let entries = q.entries;
     for i in 0..TASKS {

@@ -2,6 +2,7 @@
 // started writes nothing; what is no record ends it.
 use log::LONGEST_LOG;
 use log::Read;
+use model::DEFAULTS;
 use model::HeaderPlace;
 use model::LONGEST_POOL;
 use model::Queue;
@@ -33,7 +34,7 @@ fn play(log: &[u8], start: usize, pool: &mut [u8], first: Queue) {
 }
 
 fn run(log: &[u8], start: usize, pool: &mut [u8]) {
-    let made = pool::create(pool);
+    let made = pool::create(pool, DEFAULTS);
     if made.code != 0 {
         return;
     }

@@ -8,16 +8,16 @@ use lib.Dec.{ltb}
 use lib.IntN.{pos}
 use borrow.Author.Tests.{ltb-true}
 use Rattle.model.specs.Limits.{minus}
-use Rattle.model.specs.Rules.{base}
+use Rattle.model.specs.Rules.{rules}
 use Rattle.model.specs.Calls.{Request, Call, get}
 use Rattle.model.specs.Runs.{run, Spared, releases, Absent, Others}
 use Rattle.model.specs.Demands.{NoTrace, undo, Undone, Timeout, EndsWithin}
 use Rattle.model.specs.Pool.{Typed, waiters, perform}
-use Rattle.model.proofs.Table.{below, state-c, state-e, ask, askFor, state-limited, two-ticks, met}
+use Rattle.model.proofs.Table.{below, state-c, state-e, ask, askFor, state-limited, two-ticks, met, state-kinds, with-size, kinds-hold}
 use Rattle.model.proofs.Tests.{and-l, and-r}
 use Rattle.model.proofs.Bytes.{Bytes}
 use Rattle.model.proofs.Fates.{spared-none}
-use Rattle.model.proofs.Theorems.{base-cancel-no-trace, base-release-undoes, base-timeout, base-wait-bound}
+use Rattle.model.proofs.Theorems.{pool-cancel-no-trace, pool-release-undoes, pool-timeout, pool-wait-bound}
 
 below-bytes : (l : List ℕ) → below l ≡ true → Bytes l
 unfolding below
@@ -49,25 +49,42 @@ others-3 = (
   ),
 )
 
-pub no-trace-c : NoTrace (perform base) state-c (ask 3 12) others
-no-trace-c = base-cancel-no-trace state-c (ask 3 12) others (met .sound-c) typed-c (met .told) others-3
+pub no-trace-c : NoTrace (perform rules) state-c (ask 3 12) others
+no-trace-c = pool-cancel-no-trace state-c (ask 3 12) others (met .sound-c) typed-c (met .told) others-3
 
-pub undone-c : Undone state-c (undo (perform base) state-c (ask 3 4))
-undone-c = base-release-undoes state-c (ask 3 4) (met .sound-c) typed-c (met .granted)
+pub undone-c : Undone state-c (undo (perform rules) state-c (ask 3 4))
+undone-c = pool-release-undoes state-c (ask 3 4) (met .sound-c) typed-c (met .granted)
+
+-- in a pool with kinds: task 4 would wait too, and task 5 asks for more than the greatest request
+abbrev others-kinds : List Request
+others-kinds = ask 4 12 ∷ ask 5 21 ∷ []
+
+typed-kinds : Typed state-kinds
+typed-kinds = record { byte = below-bytes (state-kinds .bytes) (kinds-hold .bytes); places = kinds-hold .places }
+
+pub no-trace-kinds : NoTrace (perform rules) state-kinds (ask 3 20) others-kinds
+unfolding Others Absent
+no-trace-kinds =
+    pool-cancel-no-trace state-kinds (ask 3 20) others-kinds (kinds-hold .good) typed-kinds (kinds-hold .told)
+    (λ e. omega (arith, e), never-zero, (λ e. omega (arith, e), tt), (λ e. omega (arith, e), never-zero, tt, tt))
 
 -- ---- timeouts
 
 -- task 3 waits with a limit of 2, and two ticks follow with other calls between
-pub timeout-c : Timeout (perform base) waiters state-limited 3 2 two-ticks
-timeout-c = base-timeout state-c (askFor 3 12 2) 2 two-ticks (met .sound-c) refl (met .told-limited) (spared-none 3 (run (perform base) state-limited two-ticks) (met .spared))
+pub timeout-c : Timeout (perform rules) waiters state-limited 3 2 two-ticks
+timeout-c = pool-timeout state-c (askFor 3 12 2) 2 two-ticks (met .sound-c) refl (met .told-limited) (spared-none 3 (run (perform rules) state-limited two-ticks) (met .spared))
 
 -- the greatest limit, in every run
-pub longest-c : (cs : List Call) → Spared 3 (run (perform base) (perform base (get (askFor 3 12 2147483647)) state-c .state) cs)
-    → Timeout (perform base) waiters (perform base (get (askFor 3 12 2147483647)) state-c .state) 3 2147483647 cs
-longest-c cs = base-timeout state-c (askFor 3 12 2147483647) 2147483647 cs (met .sound-c) refl (met .told-longest)
+pub longest-c : (cs : List Call) → Spared 3 (run (perform rules) (perform rules (get (askFor 3 12 2147483647)) state-c .state) cs)
+    → Timeout (perform rules) waiters (perform rules (get (askFor 3 12 2147483647)) state-c .state) 3 2147483647 cs
+longest-c cs = pool-timeout state-c (askFor 3 12 2147483647) 2147483647 cs (met .sound-c) refl (met .told-longest)
 
 -- ---- the wait bound
 
 -- after e, the wait of task 4 ends at the latest in the third successful release of any run
-pub bound-e : (cs : List Call) → 3 ≤ releases (run (perform base) state-e cs) → EndsWithin (perform base) state-e 4 3 cs
-bound-e cs = rw (met .bound-e) at (base-wait-bound state-e 4 cs (met .sound-e) (met .waits-e))
+pub bound-e : (cs : List Call) → 3 ≤ releases (run (perform rules) state-e cs) → EndsWithin (perform rules) state-e 4 3 cs
+bound-e cs = rw (met .bound-e) at (pool-wait-bound state-e 4 cs (met .sound-e) (met .waits-e))
+
+-- in the pool with kinds, that of task 3 at the latest in the second
+pub bound-kinds : (cs : List Call) → 2 ≤ releases (run (perform rules) (with-size 20) cs) → EndsWithin (perform rules) (with-size 20) 3 2 cs
+bound-kinds cs = rw (kinds-hold .bound) at (pool-wait-bound (with-size 20) 3 cs (kinds-hold .good-20) (kinds-hold .waits-3))

@@ -16,7 +16,8 @@ pub mod Timeouts
 pub mod WaitBound
 pub mod Runs
 pub mod Pool
-pub mod Base
+pub mod Sizes
+pub mod Rules
 pub mod Reached
 pub mod Theorems
 pub mod Examples

@@ -78,5 +78,5 @@ tidy-pad (suc n) (e ∷ r) v = rw (ne-eqb (e .task) 0 (v .0)) (tidy-pad n r (v .
 
 -- ---- the queue
 
-pub queue-entries : (q : Queue) → length (q .entries) ≡ most-tasks → tidy (q .entries) ≡ true → queueOf (entriesOf q) ≡ q
-queue-entries q n h = sym (ap {B = Queue} (λ (l : List Entry). record { entries = l }) (tidy-is (q .entries) h ∙ ap (λ (k : ℕ). pad noEntry k (entriesOf q)) n))
+pub queue-entries : (q : Queue) → length (q .entries) ≡ most-tasks → tidy (q .entries) ≡ true → queueOf (q .attributes) (entriesOf q) ≡ q
+queue-entries q n h = sym (ap {B = Queue} (λ (l : List Entry). record { attributes = q .attributes; entries = l }) (tidy-is (q .entries) h ∙ ap (λ (k : ℕ). pad noEntry k (entriesOf q)) n))

@@ -12,13 +12,13 @@ use lib.IntN.{pos}
 use Rattle.model.specs.Limits.{most-tasks, minus, e-ok, waiting, e-sys, e-rlwai, already-free}
 use Rattle.model.specs.Blocks.{Block, block, total, tiled, liveCount}
 use Rattle.model.specs.Waiting.{Entry, waits, entryIn, remove}
-use Rattle.model.specs.Rules.{Rules, Laws, queued}
+use Rattle.model.specs.Rules.{Rules, Laws, Attributes, queued}
 use Rattle.model.specs.Calls.{BlockOffset, noOffset, noPlace, Request, Call, get, release, cancel, tick, inquire, Said, Reply, says, Refusal, plain, refuse, decide, entryOf, leaves, blocks, Store, State, state, fitting, given, serve, headStuck, sound, isLive, misplaced, tests, verdict, act, step}
 use Rattle.model.specs.Refusals.{Refused}
 use Rattle.model.specs.Runs.{Turn, after, run, refuses, refusedBy, wakeCode, endCode, Spared, releases, Unpassed, gets, refusals, winners, Others, Ranked}
 use Rattle.model.specs.Demands.{Seen, NoTrace, undo, Undone, Timeout, Untimed, EndsWithin, OneHolder}
 use Rattle.model.specs.Bytes.{blocksOf, render, erase}
-use Rattle.model.specs.Places.{noEntry, pad, used, allUnused, tidy, entriesOf, queueOf}
+use Rattle.model.specs.Places.{Queue, noEntry, pad, used, allUnused, tidy, entriesOf, queueOf}
 use Rattle.model.specs.Pool.{Stored, stored, Typed, view, waiters, waitBound, settled, soundBy, performBy, rulesOf, isSound, perform, create}
 use Rattle.model.proofs.Tests.{by, clash, and-l, and-r, and-i}
 use Rattle.model.proofs.Blocks.{untile}
@@ -67,6 +67,14 @@ module _ (K : Rules) where
       go : (v : Option Refusal) → length (decide p v (settled p (act K (blocks K) c (view p))) .state .queue .entries) ≡ most-tasks
       go (some k) = e
       go none = pad-length noEntry most-tasks (act K (blocks K) c (view p) .state .queue)
+
+  pub attributes-by : (c : Call) (p : Stored) → performBy K c p .state .queue .attributes ≡ p .queue .attributes
+  unfolding performBy
+  attributes-by c p = go (verdict K (blocks K) (soundBy K p) c (view p))
+    where
+      go : (v : Option Refusal) → decide p v (settled p (act K (blocks K) c (view p))) .state .queue .attributes ≡ p .queue .attributes
+      go (some k) = refl
+      go none = refl
 
   -- ---- refusals
 
@@ -237,60 +245,63 @@ unfolding Gets gets
 gets-are [] = tt
 gets-are (r ∷ rs) = gets-are rs
 
-module _ (R : ℕ → Rules) (law : (n : ℕ) → Laws (R n)) (long-is : (n : ℕ) → R n .long ≡ n) where
-  module _ (n : ℕ) where
-    abbrev K : Rules
-    K = R n
+module _ (R : Attributes → ℕ → Rules) (law : (a : Attributes) (n : ℕ) → Laws (R a n)) (long-is : (a : Attributes) (n : ℕ) → R a n .long ≡ n) where
+  lawsOf : (p : Stored) → Laws (rulesOf R p)
+  lawsOf p = law (p .queue .attributes) (length (p .bytes))
 
+  module _ (K : Rules) (L : Laws K) where
     abbrev B : Store (List Block)
-    B = blocks (R n)
+    B = blocks K
+
+    long-by : (p : Stored) → rulesOf R p ≡ K → length (p .bytes) ≡ K .long
+    long-by p e = sym (long-is (p .queue .attributes) (length (p .bytes))) ∙ ap (λ (x : Rules). x .long) e
 
     -- ---- a sound state, settled into bytes and places
 
-    module _ (p : Stored) (r : Reply (State (List Block))) (len : length (p .bytes) ≡ n) (h : sound K B (r .state) ≡ true) where
+    module _ (p : Stored) (r : Reply (State (List Block))) (same : rulesOf R p ≡ K) (h : sound K B (r .state) ≡ true) where
       abbrev news : List Block
       news = r .state .pool
 
       ok : Sound K B (r .state)
       ok = open-sound K B (r .state) h
 
-      erased : length (erase (blocksOf (p .bytes)) (p .bytes)) ≡ n
-      erased = erase-length (blocksOf (p .bytes)) (p .bytes) ∙ len
+      erased : length (erase (blocksOf (p .bytes)) (p .bytes)) ≡ length (p .bytes)
+      erased = erase-length (blocksOf (p .bytes)) (p .bytes)
 
-      settled-length : length (settled p r .state .bytes) ≡ n
-      settled-length = render-length news (erase (blocksOf (p .bytes)) (p .bytes)) ∙ erased
+      settled-rules : rulesOf R (settled p r .state) ≡ K
+      settled-rules = ap (R (p .queue .attributes)) (render-length news (erase (blocksOf (p .bytes)) (p .bytes)) ∙ erased) ∙ same
 
       settled-blocks : blocksOf (settled p r .state .bytes) ≡ news
       settled-blocks =
           let t = open-blocks K news (ok .pool) in
-          blocks-render (K .tasks) (omega (arith, law n .tasks-most)) false news (erase (blocksOf (p .bytes)) (p .bytes)) (t .tiling)
-          (t .sums ∙ long-is n ∙ sym erased) (rw erased (omega (arith, law n .long-most (ok .valid), long-is n)))
+          blocks-render (K .tasks) (omega (arith, L .tasks-most)) false news (erase (blocksOf (p .bytes)) (p .bytes)) (t .tiling)
+          (t .sums ∙ sym (erased ∙ long-by p same)) (rw erased (omega (arith, L .long-most (ok .valid), long-by p same)))
 
       settled-entries : entriesOf (settled p r .state .queue) ≡ r .state .queue
-      settled-entries = used-pad most-tasks (r .state .queue) (queued-live K (r .state .queue) (ok .order)) (omega (arith, queued-length K (r .state .queue) (ok .order), law n .tasks-most))
+      settled-entries = used-pad most-tasks (r .state .queue) (queued-live K (r .state .queue) (ok .order)) (omega (arith, queued-length K (r .state .queue) (ok .order), L .tasks-most))
 
       pub settled-view : view (settled p r .state) ≡ r .state
       unfolding view
       settled-view = λ i. state (settled-blocks i) (settled-entries i)
 
       pub settled-sound : isSound R (settled p r .state) ≡ true
-      settled-sound = rw settled-length (close-stored K (settled p r .state) (rw settled-view h) (tidy-pad most-tasks (r .state .queue) (queued-live K (r .state .queue) (ok .order))))
+      settled-sound = rw settled-rules (close-stored K (settled p r .state) (rw settled-view h) (tidy-pad most-tasks (r .state .queue) (queued-live K (r .state .queue) (ok .order))))
 
     -- ---- bytes and places that show a state
 
     pub record Shown (p : Stored) (s : State (List Block)) : Type 0 where
-      pub long : length (p .bytes) ≡ n
+      pub rules : rulesOf R p ≡ K
       pub good : isSound R p ≡ true
       pub is : view p ≡ s
 
     pub shown-sound : (p : Stored) (s : State (List Block)) → Shown p s → sound K B s ≡ true
-    shown-sound p s o = rw (o .is) at (open-stored K p (rw (o .long) at (o .good)) .0)
+    shown-sound p s o = rw (o .is) at (open-stored K p (rw (o .rules) at (o .good)) .0)
 
     perform-refused : (c : Call) (p : Stored) (s : State (List Block)) (k : Refusal) → Shown p s → tests K B c s ≡ some k → perform R c p ≡ refuse p k
-    perform-refused c p s k o e = rw (o .long) (by-refused K c p k (rw (o .long) at (o .good)) (rw (o .is) e))
+    perform-refused c p s k o e = rw (o .rules) (by-refused K c p k (rw (o .rules) at (o .good)) (rw (o .is) e))
 
     perform-done : (c : Call) (p : Stored) (s : State (List Block)) → Shown p s → tests K B c s ≡ none → perform R c p ≡ settled p (act K B c s)
-    perform-done c p s o e = rw (o .long) (by-done K c p (rw (o .long) at (o .good)) (rw (o .is) e) ∙ ap (λ (z : State (List Block)). settled p (act K B c z)) (o .is))
+    perform-done c p s o e = rw (o .rules) (by-done K c p (rw (o .rules) at (o .good)) (rw (o .is) e) ∙ ap (λ (z : State (List Block)). settled p (act K B c z)) (o .is))
 
     pub record Next (c : Call) (p : Stored) (s : State (List Block)) : Type 0 where
       pub said : perform R c p .said ≡ step K B c s .said
@@ -311,8 +322,8 @@ module _ (R : ℕ → Rules) (law : (n : ℕ) → Laws (R n)) (long-is : (n : �
             let g = perform-done c p s o e in
             let u = step-done K B c s (verdict-sound K B c s h ∙ e) in
             let a = act K B c s in
-            let k = act-sound K B (law n) (block-laws K) c s h e in
-            record { said = rw (g, u); shown = rw (g, u) (record { long = settled-length p a (o .long) k; good = settled-sound p a (o .long) k; is = settled-view p a (o .long) k }) }
+            let k = act-sound K B L (block-laws K) c s h e in
+            record { said = rw (g, u); shown = rw (g, u) (record { rules = settled-rules p a (o .rules) k; good = settled-sound p a (o .rules) k; is = settled-view p a (o .rules) k }) }
 
     alike : (c : Call) (cs : List Call) (p : Stored) (s : State (List Block)) → Shown p s → (perform R c p .said ≡ step K B c s .said) × Shown (perform R c p .state) (step K B c s .state)
     alike c cs p s o = let u = next c p s o in (u .said, u .shown)
@@ -326,19 +337,19 @@ module _ (R : ℕ → Rules) (law : (n : ℕ) → Laws (R n)) (long-is : (n : �
 
     -- ---- and whose bytes are b with the state's headers written
 
-    record Shows (b : List ℕ) (p : Stored) (s : State (List Block)) : Type 0 where
+    record Shows (a : Attributes) (b : List ℕ) (p : Stored) (s : State (List Block)) : Type 0 where
       shown : Shown p s
       bytes : p .bytes ≡ render (s .pool) b
-      queue : p .queue ≡ queueOf (s .queue)
+      queue : p .queue ≡ queueOf a (s .queue)
 
-    fine-next : (b : List ℕ) (c : Call) (p : Stored) (s : State (List Block)) → Finer (s .pool) (step K B c s .state .pool) → Shows b p s → Shows b (perform R c p .state) (step K B c s .state)
+    fine-next : (a : Attributes) (b : List ℕ) (c : Call) (p : Stored) (s : State (List Block)) → Finer (s .pool) (step K B c s .state .pool) → Shows a b p s → Shows a b (perform R c p .state) (step K B c s .state)
     unfolding view
-    fine-next b c p s fine o = go (tests K B c s) refl
+    fine-next a b c p s fine o = go (tests K B c s) refl
       where
         h : sound K B s ≡ true
         h = shown-sound p s (o .shown)
 
-        go : (v : Option Refusal) → tests K B c s ≡ v → Shows b (perform R c p .state) (step K B c s .state)
+        go : (v : Option Refusal) → tests K B c s ≡ v → Shows a b (perform R c p .state) (step K B c s .state)
         go (some k) e = rw (perform-refused c p s k (o .shown) e, step-refused K B c s k (verdict-sound K B c s h ∙ e)) o
         go none e =
             let g = perform-done c p s (o .shown) e in
@@ -349,56 +360,56 @@ module _ (R : ℕ → Rules) (law : (n : ℕ) → Laws (R n)) (long-is : (n : �
             record {
               shown = next c p s (o .shown) .shown;
               bytes = rw (g, u) (rw olds (render-erase (s .pool) news (p .bytes) f ∙ ap (λ (l : List ℕ). render news l) (o .bytes) ∙ render-render (s .pool) news b f));
-              queue = rw (g, u);
+              queue = rw (g, u) (ap (λ (x : Queue). queueOf (x .attributes) (act K B c s .state .queue)) (o .queue));
             }
 
     -- what shows the same is the same
-    shows-one : (b : List ℕ) (p q : Stored) (s z : State (List Block)) → s ≡ z → Shows b p s → Shows b q z → p ≡ q
-    shows-one b p q s z e o k =
+    shows-one : (a : Attributes) (b : List ℕ) (p q : Stored) (s z : State (List Block)) → s ≡ z → Shows a b p s → Shows a b q z → p ≡ q
+    shows-one a b p q s z e o k =
         let eb : p .bytes ≡ q .bytes = o .bytes ∙ ap (λ (x : State (List Block)). render (x .pool) b) e ∙ sym (k .bytes) in
-        let eq : p .queue ≡ q .queue = o .queue ∙ ap (λ (x : State (List Block)). queueOf (x .queue)) e ∙ sym (k .queue) in
+        let eq : p .queue ≡ q .queue = o .queue ∙ ap (λ (x : State (List Block)). queueOf a (x .queue)) e ∙ sym (k .queue) in
         λ i. stored (eb i) (eq i)
 
-    gets-next : (b : List ℕ) (c : Call) (cs : List Call) (p : Stored) (s : State (List Block)) → Shows b p s × Gets (c ∷ cs)
-        → (perform R c p .said ≡ step K B c s .said) × (Shows b (perform R c p .state) (step K B c s .state) × Gets cs)
+    gets-next : (a : Attributes) (b : List ℕ) (c : Call) (cs : List Call) (p : Stored) (s : State (List Block)) → Shows a b p s × Gets (c ∷ cs)
+        → (perform R c p .said ≡ step K B c s .said) × (Shows a b (perform R c p .state) (step K B c s .state) × Gets cs)
     unfolding Gets
-    gets-next b (get r) cs p s o =
-        (next (get r) p s (o .0 .shown) .said, (fine-next b (get r) p s (get-finer K (law n) r s (shown-sound p s (o .0 .shown))) (o .0), o .1))
-    gets-next b (release f) cs p s o = absurd (o .1)
-    gets-next b (cancel t) cs p s o = absurd (o .1)
-    gets-next b tick cs p s o = absurd (o .1)
-    gets-next b inquire cs p s o = absurd (o .1)
+    gets-next a b (get r) cs p s o =
+        (next (get r) p s (o .0 .shown) .said, (fine-next a b (get r) p s (get-finer K L r s (shown-sound p s (o .0 .shown))) (o .0), o .1))
+    gets-next a b (release f) cs p s o = absurd (o .1)
+    gets-next a b (cancel t) cs p s o = absurd (o .1)
+    gets-next a b tick cs p s o = absurd (o .1)
+    gets-next a b inquire cs p s o = absurd (o .1)
 
   -- ---- runs
 
-  own : (p : Stored) → isSound R p ≡ true → Shown (length (p .bytes)) p (view p)
-  own p h = record { long = refl; good = h; is = refl }
+  own : (p : Stored) → isSound R p ≡ true → Shown (rulesOf R p) (lawsOf p) p (view p)
+  own p h = record { rules = refl; good = h; is = refl }
 
-  shows-own : (p : Stored) → isSound R p ≡ true → Typed p → Shows (length (p .bytes)) (p .bytes) p (view p)
+  shows-own : (p : Stored) → isSound R p ≡ true → Typed p → Shows (rulesOf R p) (lawsOf p) (p .queue .attributes) (p .bytes) p (view p)
   unfolding view
   shows-own p h t =
-      let n = length (p .bytes) in
-      let a = open-stored (R n) p h in
-      let k = open-blocks (R n) (blocksOf (p .bytes)) (open-sound (R n) (blocks (R n)) (view p) (a .0) .pool) in
+      let K = rulesOf R p in
+      let a = open-stored K p h in
+      let k = open-blocks K (blocksOf (p .bytes)) (open-sound K (blocks K) (view p) (a .0) .pool) in
       record {
         shown = own p h;
-        bytes = sym (render-blocks (R n .tasks) (p .bytes) (k .tiling) (k .sums ∙ long-is n) (t .byte));
+        bytes = sym (render-blocks (K .tasks) (p .bytes) (k .tiling) (k .sums ∙ long-is (p .queue .attributes) (length (p .bytes))) (t .byte));
         queue = sym (queue-entries (p .queue) (t .places) (a .1));
       }
 
   -- a run on bytes and places is told what the run on block list and entries is told
   pub run-view : (p : Stored) (cs : List Call) → isSound R p ≡ true → run (perform R) p cs ≡ run (step (rulesOf R p) (blocks (rulesOf R p))) (view p) cs
-  run-view p cs h = runs-shown (length (p .bytes)) cs p (view p) (own p h)
+  run-view p cs h = runs-shown (rulesOf R p) (lawsOf p) cs p (view p) (own p h)
 
   -- every run leaves a sound state sound
   pub after-sound : (p : Stored) (cs : List Call) → isSound R p ≡ true → isSound R (after (perform R) p cs) ≡ true
-  after-sound p cs h = ends-shown (length (p .bytes)) cs p (view p) (own p h) .good
+  after-sound p cs h = ends-shown (rulesOf R p) (lawsOf p) cs p (view p) (own p h) .good
 
   pub perform-seen : (c : Call) (p : Stored) → isSound R p ≡ true → Seen R c p
-  perform-seen c p h = let u = next (length (p .bytes)) c p (view p) (own p h) in record { said = u .said; state = u .shown .is }
+  perform-seen c p h = let u = next (rulesOf R p) (lawsOf p) c p (view p) (own p h) in record { said = u .said; state = u .shown .is }
 
   pub perform-sound : (c : Call) (p : Stored) → isSound R p ≡ true → isSound R (perform R c p .state) ≡ true
-  perform-sound c p h = next (length (p .bytes)) c p (view p) (own p h) .shown .good
+  perform-sound c p h = next (rulesOf R p) (lawsOf p) c p (view p) (own p h) .shown .good
 
   pub woken-fit : (c : Call) (p : Stored) → isSound R p ≡ true → length (perform R c p .said .woken) ≤ most-tasks
   woken-fit c p h = go (tests K B c (view p)) refl
@@ -412,72 +423,75 @@ module _ (R : ℕ → Rules) (law : (n : ℕ) → Laws (R n)) (long-is : (n : �
       go : (v : Option Refusal) → tests K B c (view p) ≡ v → length (perform R c p .said .woken) ≤ most-tasks
       go (some k) e = rw (by-refused K c p k h e) (omega arith)
       go none e =
-          rw (by-done K c p h e) (omega (arith, woken-length K B (law (length (p .bytes))) (block-laws K) c (view p) (open-stored K p h .0) e, law (length (p .bytes)) .tasks-most))
+          rw (by-done K c p h e) (omega (arith, woken-length K B (lawsOf p) (block-laws K) c (view p) (open-stored K p h .0) e, lawsOf p .tasks-most))
 
   -- ---- demand 3
 
   pub perform-no-trace : (p : Stored) (f : Request) (rs : List Request) → isSound R p ≡ true → Typed p → perform R (get f) p .said .code ≡ waiting
       → Others (f .task) rs → Ranked (rulesOf R p .rank) (rulesOf R p .rank (entryOf f)) rs → NoTrace (perform R) p f rs
   perform-no-trace p f rs h t z os rk =
-      let n = length (p .bytes) in
-      let K = R n in
+      let K = rulesOf R p in
+      let L = lawsOf p in
       let B = blocks K in
+      let a = p .queue .attributes in
       let b = p .bytes in
       let s = view p in
       let o = shows-own p h t in
-      let u = next n (get f) p s (own p h) in
-      let hs = shown-sound n p s (own p h) in
-      let m = no-trace K B (law n) (block-laws K) s f rs hs (ap (λ (x : Said). x .code) (sym (u .said)) ∙ z) os rk in
+      let u = next K L (get f) p s (own p h) in
+      let hs = shown-sound K L p s (own p h) in
+      let m = no-trace K B L (block-laws K) s f rs hs (ap (λ (x : Said). x .code) (sym (u .said)) ∙ z) os rk in
       let p₁ = perform R (get f) p .state in
       let s₁ = step K B (get f) s .state in
-      let o₁ = fine-next n b (get f) p s (get-finer K (law n) f s hs) o in
-      let rel : List Call → Stored → State (List Block) → Type 0 = λ cs x y. Shows n b x y × Gets cs in
-      let e₁ = ends-alike (perform R) (step K B) rel (gets-next n b) (gets rs) p₁ s₁ (o₁, gets-are rs) .0 in
-      let e₂ = ends-alike (perform R) (step K B) rel (gets-next n b) (gets rs) p s (o, gets-are rs) .0 in
-      let r₁ = runs-alike (perform R) (step K B) rel (gets-next n b) (gets rs) p₁ s₁ (o₁, gets-are rs) in
-      let r₂ = runs-alike (perform R) (step K B) rel (gets-next n b) (gets rs) p s (o, gets-are rs) in
+      let o₁ = fine-next K L a b (get f) p s (get-finer K L f s hs) o in
+      let rel : List Call → Stored → State (List Block) → Type 0 = λ cs x y. Shows K L a b x y × Gets cs in
+      let e₁ = ends-alike (perform R) (step K B) rel (gets-next K L a b) (gets rs) p₁ s₁ (o₁, gets-are rs) .0 in
+      let e₂ = ends-alike (perform R) (step K B) rel (gets-next K L a b) (gets rs) p s (o, gets-are rs) .0 in
+      let r₁ = runs-alike (perform R) (step K B) rel (gets-next K L a b) (gets rs) p₁ s₁ (o₁, gets-are rs) in
+      let r₂ = runs-alike (perform R) (step K B) rel (gets-next K L a b) (gets rs) p s (o, gets-are rs) in
       let pe = after (perform R) p₁ (gets rs) in
       let se = after (step K B) s₁ (gets rs) in
       let c = cancel (f .task) in
-      let last = fine-next n b c pe se (cancel-finer K (law n) (f .task) se (shown-sound n pe se (e₁ .shown))) e₁ in
-      let said = next n c pe se (e₁ .shown) .said ∙ ap (λ (a : Reply (State (List Block))). a .said) (m .cancelled)
+      let last = fine-next K L a b c pe se (cancel-finer K L (f .task) se (shown-sound K L pe se (e₁ .shown))) e₁ in
+      let said = next K L c pe se (e₁ .shown) .said ∙ ap (λ (a : Reply (State (List Block))). a .said) (m .cancelled)
       ∙ ap (λ (l : List Turn). says e-ok noOffset (leaves e-rlwai (f .task) ∷ winners l)) (sym r₂) in
       let same = ap (λ (a : Reply (State (List Block))). a .state) (m .cancelled) in
-      let state = shows-one n b (perform R c pe .state) (after (perform R) p (gets rs)) (step K B c se .state) (after (step K B) s (gets rs)) same last e₂ in
+      let state = shows-one K L a b (perform R c pe .state) (after (perform R) p (gets rs)) (step K B c se .state) (after (step K B) s (gets rs)) same last e₂ in
       record { cancelled = λ i. record { said = said i; state = state i }; refused = ap refusals r₁ ∙ m .refused ∙ sym (ap refusals r₂) }
 
   pub perform-undone : (p : Stored) (r : Request) → isSound R p ≡ true → Typed p → perform R (get r) p .said .code ≡ e-ok → Undone p (undo (perform R) p r)
   unfolding view
   perform-undone p r h t z =
-      let n = length (p .bytes) in
-      let K = R n in
+      let K = rulesOf R p in
+      let L = lawsOf p in
       let B = blocks K in
       let s = view p in
-      let u = next n (get r) p s (own p h) in
+      let u = next K L (get r) p s (own p h) in
       let z₁ : step K B (get r) s .said .code ≡ e-ok = ap (λ (x : Said). x .code) (sym (u .said)) ∙ z in
-      let g = get-release K B (law n) (block-laws K) r s (shown-sound n p s (own p h)) z₁ in
+      let g = get-release K B L (block-laws K) r s (shown-sound K L p s (own p h)) z₁ in
       let at : perform R (get r) p .said .offset ≡ step K B (get r) s .said .offset = ap (λ (x : Said). x .offset) (u .said) in
       let c = release (step K B (get r) s .said .offset) in
-      let v = next n c (perform R (get r) p .state) (step K B (get r) s .state) (u .shown) in
+      let v = next K L c (perform R (get r) p .state) (step K B (get r) s .state) (u .shown) in
       let back : view (perform R c (perform R (get r) p .state) .state) ≡ s = v .shown .is ∙ ap (λ (a : Reply (State (List Block))). a .state) g in
       let q = perform R c (perform R (get r) p .state) .state in
-      let places : queueOf (entriesOf (q .queue)) ≡ q .queue =
-      queue-entries (q .queue) (places-by (rulesOf R (perform R (get r) p .state)) c (perform R (get r) p .state) (places-by K (get r) p (t .places))) (open-stored (R (length (q .bytes))) q (v .shown .good) .1) in
+      let K₁ = rulesOf R (perform R (get r) p .state) in
+      let kept : q .queue .attributes ≡ p .queue .attributes = attributes-by K₁ c (perform R (get r) p .state) ∙ attributes-by K (get r) p in
+      let places : queueOf (q .queue .attributes) (entriesOf (q .queue)) ≡ q .queue =
+      queue-entries (q .queue) (places-by K₁ c (perform R (get r) p .state) (places-by K (get r) p (t .places))) (open-stored (rulesOf R q) q (v .shown .good) .1) in
       rw at (record {
         said = v .said ∙ ap (λ (a : Reply (State (List Block))). a .said) g;
         blocks = ap (λ (x : State (List Block)). x .pool) back;
-        queue = sym places ∙ ap (λ (x : State (List Block)). queueOf (x .queue)) back ∙ queue-entries (p .queue) (t .places) (open-stored K p h .1);
+        queue = sym places ∙ (λ i. queueOf (kept i) (back i .queue)) ∙ queue-entries (p .queue) (t .places) (open-stored K p h .1);
       })
 
   -- ---- timeouts: a get that is told to wait, and a run from there
 
   module _ (p : Stored) (f : Request) (cs : List Call) (h : isSound R p ≡ true) (z : perform R (get f) p .said .code ≡ waiting)
       (sp : Spared (f .task) (run (perform R) (perform R (get f) p .state) cs)) where
-    abbrev n : ℕ
-    n = length (p .bytes)
+    abbrev S : Rules
+    S = rulesOf R p
 
     abbrev steps : Call → State (List Block) → Reply (State (List Block))
-    steps = step (R n) (blocks (R n))
+    steps = step S (blocks S)
 
     -- the states that the get leaves
     abbrev p₁ : Stored
@@ -486,31 +500,31 @@ module _ (R : ℕ → Rules) (law : (n : ℕ) → Laws (R n)) (long-is : (n : �
     abbrev s₁ : State (List Block)
     s₁ = steps (get f) (view p) .state
 
-    good : sound (R n) (blocks (R n)) (view p) ≡ true
-    good = shown-sound n p (view p) (own p h)
+    good : sound S (blocks S) (view p) ≡ true
+    good = shown-sound S (lawsOf p) p (view p) (own p h)
 
-    first : Next n (get f) p (view p)
-    first = next n (get f) p (view p) (own p h)
+    first : Next S (lawsOf p) (get f) p (view p)
+    first = next S (lawsOf p) (get f) p (view p) (own p h)
 
     told : steps (get f) (view p) .said .code ≡ waiting
     told = ap (λ (x : Said). x .code) (sym (first .said)) ∙ z
 
     turns : run (perform R) p₁ cs ≡ run steps s₁ cs
-    turns = runs-shown n cs p₁ s₁ (first .shown)
+    turns = runs-shown S (lawsOf p) cs p₁ s₁ (first .shown)
 
-    end : Shown n (after (perform R) p₁ cs) (after steps s₁ cs)
-    end = ends-shown n cs p₁ s₁ (first .shown)
+    end : Shown S (lawsOf p) (after (perform R) p₁ cs) (after steps s₁ cs)
+    end = ends-shown S (lawsOf p) cs p₁ s₁ (first .shown)
 
-    waits-shown : (b : Bool) (p : Stored) (s : State (List Block)) → Shown n p s → waits (f .task) (s .queue) ≡ b → waits (f .task) (waiters p) ≡ b
+    waits-shown : (b : Bool) (x : Stored) (s : State (List Block)) → Shown S (lawsOf p) x s → waits (f .task) (s .queue) ≡ b → waits (f .task) (waiters x) ≡ b
     unfolding view
-    waits-shown b p s o e = ap (λ (x : State (List Block)). waits (f .task) (x .queue)) (o .is) ∙ e
+    waits-shown b x s o e = ap (λ (y : State (List Block)). waits (f .task) (y .queue)) (o .is) ∙ e
 
     pub perform-timeout : (k : ℕ) → f .limit ≡ pos k → Timeout (perform R) waiters p₁ (f .task) k cs
     perform-timeout k e =
-        let m = timeout (R n) (blocks (R n)) (law n) (block-laws (R n)) (view p) f cs good told (rw turns at sp) k e in
+        let m = timeout S (blocks S) (lawsOf p) (block-laws S) (view p) f cs good told (rw turns at sp) k e in
         let pe = after (perform R) p₁ cs in
         let se = after steps s₁ cs in
-        let last = next n tick pe se end in
+        let last = next S (lawsOf p) tick pe se end in
         record {
           ends = ap (endCode (f .task)) turns ∙ m .ends;
           waiting = λ i. waits-shown true pe se end (m .waiting i);
@@ -520,15 +534,15 @@ module _ (R : ℕ → Rules) (law : (n : ℕ) → Laws (R n)) (long-is : (n : �
 
     pub perform-unlimited : f .limit ≡ minus 1 → Untimed (perform R) waiters p₁ (f .task) cs
     perform-unlimited e =
-        let m = unlimited (R n) (blocks (R n)) (law n) (block-laws (R n)) (view p) f cs good told (rw turns at sp) e in
+        let m = unlimited S (blocks S) (lawsOf p) (block-laws S) (view p) f cs good told (rw turns at sp) e in
         record { ends = ap (endCode (f .task)) turns ∙ m .ends; waiting = waits-shown true (after (perform R) p₁ cs) (after steps s₁ cs) end (m .waiting) }
 
   -- ---- the wait bound
 
-  ending-shown : (n t m : ℕ) (cs : List Call) (p : Stored) (s : State (List Block)) → Shown n p s → EndsWithin (step (R n) (blocks (R n))) s t m cs → EndsWithin (perform R) p t m cs
-  ending-shown n t m cs p s o w =
-      let turns = runs-shown n (w .before) p s o in
-      let last = next n (w .call) (after (perform R) p (w .before)) (after (step (R n) (blocks (R n))) s (w .before)) (ends-shown n (w .before) p s o) in
+  ending-shown : (K : Rules) (L : Laws K) (t m : ℕ) (cs : List Call) (p : Stored) (s : State (List Block)) → Shown K L p s → EndsWithin (step K (blocks K)) s t m cs → EndsWithin (perform R) p t m cs
+  ending-shown K L t m cs p s o w =
+      let turns = runs-shown K L (w .before) p s o in
+      let last = next K L (w .call) (after (perform R) p (w .before)) (after (step K (blocks K)) s (w .before)) (ends-shown K L (w .before) p s o) in
       record {
         before = w .before;
         call = w .call;
@@ -546,23 +560,26 @@ module _ (R : ℕ → Rules) (law : (n : ℕ) → Laws (R n)) (long-is : (n : �
       → waitBound p t ≤ releases (run (perform R) p cs) → EndsWithin (perform R) p t (waitBound p t) cs
   unfolding view
   perform-bound p t e cs h here up j =
-      let n = length (p .bytes) in
+      let K = rulesOf R p in
+      let L = lawsOf p in
       let turns = run-view p cs h in
-      ending-shown n t (waitBound p t) cs p (view p) (own p h)
-      (wait-bound (R n) (blocks (R n)) liveCount (law n) (block-laws (R n)) (count-laws (R n)) t e (view p) cs (shown-sound n p (view p) (own p h)) here (rw turns at up) (rw turns at j))
+      ending-shown K L t (waitBound p t) cs p (view p) (own p h)
+      (wait-bound K (blocks K) liveCount L (block-laws K) (count-laws K) t e (view p) cs (shown-sound K L p (view p) (own p h)) here (rw turns at up) (rw turns at j))
 
   -- ---- create
 
-  pub create-sound : (l : List ℕ) → R (length l) .valid ≡ true → isSound R (create R l .state) ≡ true
+  pub create-sound : (a : Attributes) (l : List ℕ) → R a (length l) .valid ≡ true → isSound R (create R a l .state) ≡ true
   unfolding create view used pad tidy allUnused
-  create-sound l v =
+  create-sound a l v =
       let n = length l in
-      let K = R n in
+      let K = R a n in
+      let L = law a n in
+      let long = long-is a n in
       let bs = block n 0 ∷ [] in
       let tiling : tiled (K .tasks) false bs ≡ true = untile (K .tasks) false (block n 0) []
-      (record { by-four = rw (long-is n) at (law n .long-mod v); least = rw (long-is n) at (law n .long-least v); owned = omega arith; apart = refl; rest = tiled-nil (K .tasks) true }) in
+      (record { by-four = rw long at (L .long-mod v); least = rw long at (L .long-least v); owned = omega arith; apart = refl; rest = tiled-nil (K .tasks) true }) in
       let sums : total bs ≡ n = total-one n in
-      let eb : blocksOf (render bs l) ≡ bs = blocks-render (K .tasks) (omega (arith, law n .tasks-most)) false bs l tiling sums (omega (arith, law n .long-most v, long-is n)) in
+      let eb : blocksOf (render bs l) ≡ bs = blocks-render (K .tasks) (omega (arith, L .tasks-most)) false bs l tiling sums (omega (arith, L .long-most v, long)) in
       let ok : sound K (blocks K) (state bs []) ≡ true = close-sound K (blocks K) (state bs [])
-      (record { valid = v; pool = close-blocks K bs (record { sums = sums ∙ sym (long-is n); tiling = tiling }); order = queued-nil K; stuck = stuck-nil K (blocks K) bs }) in
-      rw v (rw (render-length bs l) (close-stored K (stored (render bs l) (queueOf [])) (rw eb ok) refl))
+      (record { valid = v; pool = close-blocks K bs (record { sums = sums ∙ sym long; tiling = tiling }); order = queued-nil K; stuck = stuck-nil K (blocks K) bs }) in
+      rw v (rw (render-length bs l) (close-stored K (stored (render bs l) (queueOf a [])) (rw eb ok) refl))

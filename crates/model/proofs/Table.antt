@@ -1,27 +1,28 @@
--- The definitions give document 01's examples, and states that meet the theorems' hypotheses, by computation. Stands on no lemma.
-use Prim.Native.Nat.{ℕ}
+-- The definitions give the examples of document 01 and of size kinds, and states that meet the theorems' hypotheses, by computation. Stands on no lemma.
+use Prim.Native.Nat.{ℕ, _-_}
 use mathlib.Core.Path.{_≡_, refl}
 use mathlib.Core.Bool.{Bool, true, false, _&&_}
-use mathlib.Core.List.{List, [], _∷_, _++_}
+use mathlib.Core.List.{List, [], _∷_, _++_, map}
 use mathlib.Core.Option.{Option, none, some}
 use lib.ListN.{length, replicate}
 use lib.Dec.{ltb}
 use lib.IntN.{ℤ, pos}
-use Rattle.model.specs.Limits.{most-tasks, forever, minus, e-ok, waiting, e-sys, inside-block}
+use Rattle.model.specs.Limits.{most-tasks, with-kinds, forever, minus, e-ok, waiting, e-sys, inside-block}
 use Rattle.model.specs.Blocks.{Block, block, total, tiled, fits, firstFit, carve, granted, startsAt, holder, join, freed, liveCount, sumFree, greatestFree}
 use Rattle.model.specs.Bytes.{blocksOf, blocksFrom, le32, header, overlay, written, mask, render, erase}
+use Rattle.model.specs.Sizes.{kindFor, smallest, kindsFrom, kindsInUse}
 use Rattle.model.specs.Waiting.{Entry, waits, placeIn, remove, headTask, insert, blocked, leads, expired, remaining}
-use Rattle.model.specs.Rules.{Rules, queued, okLong, okSize, needOf, base}
+use Rattle.model.specs.Rules.{Rules, Attributes, queued, okLong, okSize, needOf, rules}
 use Rattle.model.specs.Calls.{Request, Call, get, poll, cancel, tick, inquire, plain, because, leave, blocks, serve, headStuck, sound, tests, act}
 use Rattle.model.specs.Runs.{after, run, refuses, refusedBy, wakeCode, endCode, ticks, releases}
 use Rattle.model.specs.Places.{pad, used, allUnused, tidy, queueOf}
-use Rattle.model.specs.Pool.{Stored, stored, view, waiters, waitBound, soundBy, performBy, isSound, perform, create}
-use Rattle.model.specs.Table.{linesFrom, stateFrom, playedAll, fresh, wants, at, to-c, to-e, blocks-b, blocks-c, queue-e, table}
+use Rattle.model.specs.Pool.{Stored, stored, view, waiters, waitBound, soundBy, performBy, defaults, isSound, perform, create}
+use Rattle.model.specs.Table.{linesFrom, stateFrom, playedAll, fresh, wants, at, to-c, to-e, blocks-b, blocks-c, queue-e, kinds, table}
 
--- ---- the table of document 01's examples
+-- ---- the table of examples
 
 pub table-holds : playedAll table ≡ table
-unfolding total tiled fits firstFit carve granted startsAt holder join freed sumFree greatestFree blocksFrom le32 header overlay written mask render erase waits remove headTask insert blocked leads expired remaining queued base leave serve headStuck sound tests act pad used allUnused tidy view soundBy performBy create linesFrom stateFrom playedAll
+unfolding total tiled fits firstFit carve granted startsAt holder join freed sumFree greatestFree blocksFrom le32 header overlay written mask render erase waits remove headTask insert blocked leads expired remaining queued smallest rules leave serve headStuck sound tests act pad used allUnused tidy view soundBy performBy create linesFrom stateFrom playedAll
 table-holds = refl
 
 -- ---- bytes, by a test
@@ -33,16 +34,16 @@ below (x ∷ l) = ltb x 256 && below l
 -- ---- the states after c and after e, and others, sound or not
 
 abbrev pub state-c : Stored
-state-c = stateFrom (fresh 64 .state) to-c
+state-c = stateFrom (fresh defaults 64 .state) to-c
 
 abbrev pub state-e : Stored
-state-e = stateFrom (fresh 64 .state) to-e
+state-e = stateFrom (fresh defaults 64 .state) to-e
 
 abbrev pub spoiled : Stored
 spoiled = stored (replicate 64 170) (state-e .queue)
 
 abbrev made : List Block → List Entry → Stored
-made bs q = stored (render bs (replicate 64 170)) (queueOf q)
+made bs q = stored (render bs (replicate 64 170)) (queueOf defaults q)
 
 abbrev free-neighbours : Stored
 free-neighbours = made (block 20 0 ∷ block 44 0 ∷ []) []
@@ -63,40 +64,40 @@ askFor t n limit = record { task = t; size = n; limit = pos limit }
 
 -- task 3 waits with a limit of 2; then two ticks, and calls that do not serve it
 abbrev pub state-limited : Stored
-state-limited = perform base (get (askFor 3 12 2)) state-c .state
+state-limited = perform rules (get (askFor 3 12 2)) state-c .state
 
 abbrev pub two-ticks : List Call
 two-ticks = get (ask 4 4) ∷ tick ∷ poll 5 4 ∷ inquire ∷ at 12 ∷ tick ∷ cancel 4 ∷ []
 
 pub record Met : Type 0 where
-  pub valid : base 64 .valid ≡ true
-  pub sound-c : isSound base state-c ≡ true
-  pub sound-e : isSound base state-e ≡ true
-  pub spoiled-not : isSound base spoiled ≡ false
-  pub free-neighbours-not : isSound base free-neighbours ≡ false
-  pub head-fits-not : isSound base head-fits ≡ false
-  pub left-none-not : isSound base (with-left 0) ≡ false
-  pub left-least : isSound base (with-left 1) ≡ true
-  pub left-most : isSound base (with-left 2147483648) ≡ true
-  pub left-above-not : isSound base (with-left 2147483649) ≡ false
-  pub left-forever : isSound base (with-left forever) ≡ true
+  pub valid : rules defaults 64 .valid ≡ true
+  pub sound-c : isSound rules state-c ≡ true
+  pub sound-e : isSound rules state-e ≡ true
+  pub spoiled-not : isSound rules spoiled ≡ false
+  pub free-neighbours-not : isSound rules free-neighbours ≡ false
+  pub head-fits-not : isSound rules head-fits ≡ false
+  pub left-none-not : isSound rules (with-left 0) ≡ false
+  pub left-least : isSound rules (with-left 1) ≡ true
+  pub left-most : isSound rules (with-left 2147483648) ≡ true
+  pub left-above-not : isSound rules (with-left 2147483649) ≡ false
+  pub left-forever : isSound rules (with-left forever) ≡ true
   pub bytes-c : below (state-c .bytes) ≡ true
   pub places-c : length (state-c .queue .entries) ≡ 32
-  pub list-c : blocks (base 64) .sound blocks-c ≡ true
-  pub list-e : queued (base 64) queue-e ≡ true
+  pub list-c : blocks (rules defaults 64) .sound blocks-c ≡ true
+  pub list-e : queued (rules defaults 64) queue-e ≡ true
   pub waits-e : waits 4 (waiters state-e) ≡ true
   pub bound-e : waitBound state-e 4 ≡ 3
-  pub told : perform base (get (ask 3 12)) state-c .said .code ≡ waiting
-  pub told-limited : perform base (get (askFor 3 12 2)) state-c .said .code ≡ waiting
-  pub told-longest : perform base (get (askFor 3 12 2147483647)) state-c .said .code ≡ waiting
-  pub spared : endCode 3 (run (perform base) state-limited two-ticks) ≡ none
+  pub told : perform rules (get (ask 3 12)) state-c .said .code ≡ waiting
+  pub told-limited : perform rules (get (askFor 3 12 2)) state-c .said .code ≡ waiting
+  pub told-longest : perform rules (get (askFor 3 12 2147483647)) state-c .said .code ≡ waiting
+  pub spared : endCode 3 (run (perform rules) state-limited two-ticks) ≡ none
   pub ticked : ticks two-ticks ≡ 2
-  pub granted : perform base (get (ask 3 4)) state-c .said .code ≡ e-ok
-  pub refused : refusedBy (perform base (at 12) state-c .said) ≡ some (because inside-block (record { 0 = 0 }))
-  pub refused-spoiled : refusedBy (perform base tick spoiled .said) ≡ some (plain e-sys)
+  pub granted : perform rules (get (ask 3 4)) state-c .said .code ≡ e-ok
+  pub refused : refusedBy (perform rules (at 12) state-c .said) ≡ some (because inside-block (record { 0 = 0 }))
+  pub refused-spoiled : refusedBy (perform rules tick spoiled .said) ≡ some (plain e-sys)
 
 pub met : Met
-unfolding total tiled fits firstFit carve granted startsAt holder join freed liveCount sumFree greatestFree blocksFrom le32 header overlay written mask render erase waits placeIn remove headTask insert blocked leads expired remaining queued base leave serve headStuck sound tests act pad used allUnused tidy view soundBy performBy create stateFrom run wakeCode endCode ticks refuses below
+unfolding total tiled fits firstFit carve granted startsAt holder join freed liveCount sumFree greatestFree blocksFrom le32 header overlay written mask render erase waits placeIn remove headTask insert blocked leads expired remaining queued smallest rules leave serve headStuck sound tests act pad used allUnused tidy view soundBy performBy create stateFrom run wakeCode endCode ticks refuses below
 met =
     record {
       valid = refl;
@@ -138,7 +139,7 @@ record Wait : Type 0 where
   done : ℕ
   code : Option ℤ
 
-abbrev waitOf : (ℕ → Rules) → Stored → ℕ → List Call → Wait
+abbrev waitOf : (Attributes → ℕ → Rules) → Stored → ℕ → List Call → Wait
 waitOf R p t cs =
     record {
       good = isSound R p;
@@ -155,7 +156,7 @@ wait live place bound done code = record { good = true; live = live; place = pla
 
 -- tasks 3 and 4 each wait for the whole pool, of which tasks 1 and 2 have a block each
 abbrev state-whole : Stored
-state-whole = after (perform base) state-c (wants 3 56 ∷ wants 4 56 ∷ [])
+state-whole = after (perform rules) state-c (wants 3 56 ∷ wants 4 56 ∷ [])
 
 -- calls with one successful release, and with two
 abbrev one-release : List Call
@@ -165,22 +166,102 @@ abbrev two-releases : List Call
 two-releases = one-release ++ (at 28 ∷ wants 5 4 ∷ at 12 ∷ tick ∷ inquire ∷ cancel 5 ∷ [])
 
 -- the smallest request first
-abbrev by-size : ℕ → Rules
-by-size n = record { valid = okLong n; long = n; tasks = most-tasks; allowed = λ e. okSize n (e .size); need = needOf; rank = λ e. e .size }
+abbrev by-size : Attributes → ℕ → Rules
+by-size a n = record { valid = okLong n; long = n; tasks = most-tasks; allowed = λ e. okSize (n - 8) (e .size); need = needOf a; rank = λ e. e .size }
 
 -- task 3 waits for the whole pool, of which task 1 has a block; where the smallest comes first, task 5 passes it
 abbrev state-passed : Stored
 state-passed = made blocks-b (record { task = 3; size = 56; left = forever } ∷ [])
 
 pub record Waits : Type 0 where
-  pub head-e : waitOf base state-e 3 (at 28 ∷ []) ≡ wait 2 1 2 1 (some e-ok)
-  pub second-e : waitOf base state-e 4 (at 28 ∷ []) ≡ wait 2 2 3 1 (some e-ok)
-  pub head-not : waitOf base state-whole 3 one-release ≡ wait 2 1 2 1 none
-  pub head : waitOf base state-whole 3 (one-release ++ (at 28 ∷ [])) ≡ wait 2 1 2 2 (some e-ok)
-  pub second-not : waitOf base state-whole 4 two-releases ≡ wait 2 2 3 2 none
-  pub second : waitOf base state-whole 4 (two-releases ++ (at 8 ∷ [])) ≡ wait 2 2 3 3 (some e-ok)
+  pub head-e : waitOf rules state-e 3 (at 28 ∷ []) ≡ wait 2 1 2 1 (some e-ok)
+  pub second-e : waitOf rules state-e 4 (at 28 ∷ []) ≡ wait 2 2 3 1 (some e-ok)
+  pub head-not : waitOf rules state-whole 3 one-release ≡ wait 2 1 2 1 none
+  pub head : waitOf rules state-whole 3 (one-release ++ (at 28 ∷ [])) ≡ wait 2 1 2 2 (some e-ok)
+  pub second-not : waitOf rules state-whole 4 two-releases ≡ wait 2 2 3 2 none
+  pub second : waitOf rules state-whole 4 (two-releases ++ (at 8 ∷ [])) ≡ wait 2 2 3 3 (some e-ok)
   pub passed : waitOf by-size state-passed 3 (wants 5 4 ∷ at 8 ∷ []) ≡ wait 1 1 1 1 none
 
 pub waits-hold : Waits
-unfolding total tiled fits firstFit carve granted startsAt holder join freed liveCount sumFree greatestFree blocksFrom le32 header overlay written mask render erase waits placeIn remove headTask insert blocked leads expired remaining queued base leave serve headStuck sound tests act pad used allUnused tidy view soundBy performBy create stateFrom after run wakeCode endCode releases
+unfolding total tiled fits firstFit carve granted startsAt holder join freed liveCount sumFree greatestFree blocksFrom le32 header overlay written mask render erase waits placeIn remove headTask insert blocked leads expired remaining queued smallest rules leave serve headStuck sound tests act pad used allUnused tidy view soundBy performBy create stateFrom after run wakeCode endCode releases
 waits-hold = record { head-e = refl; second-e = refl; head-not = refl; head = refl; second-not = refl; second = refl; passed = refl }
+
+-- ---- size kinds
+
+-- whether create takes the attributes for n bytes
+abbrev takes : ℕ → ℕ → ℕ → Bool
+takes n choice m = rules (record { kinds = choice; greatest = m }) n .valid
+
+-- a pool of 64 bytes whose kinds are 12 and 36, with blocks of both sizes, and what its queue keeps
+abbrev with-queue : Attributes → List Entry → Stored
+with-queue a q = stored (render (block 20 1 ∷ block 44 2 ∷ []) (replicate 64 170)) (queueOf a q)
+
+abbrev pub state-kinds : Stored
+state-kinds = with-queue (kinds 20) []
+
+-- task 3 waits for a size
+abbrev pub with-size : ℕ → Stored
+with-size n = with-queue (kinds 20) (record { task = 3; size = n; left = forever } ∷ [])
+
+pub record Kinds : Type 0 where
+  -- the 24 sizes of source 000
+  pub sizes : kindsFrom 0 24
+      ≡ 12 ∷ 36 ∷ 84 ∷ 180 ∷ 372 ∷ 756 ∷ 1524 ∷ 3060 ∷ 6132 ∷ 12276 ∷ 24564 ∷ 49140 ∷ 98292 ∷ 196596 ∷ 393204 ∷ 786420 ∷ 1572852 ∷ 3145716 ∷ 6291444 ∷ 12582900 ∷ 25165812 ∷ 50331636 ∷ 100663284 ∷ 201326580 ∷ []
+  -- its two examples: 256 and 131,072; the first stops there at 180
+  pub uses-256 : kindsInUse 256 ≡ 12 ∷ 36 ∷ 84 ∷ 180 ∷ 372 ∷ []
+  pub uses-131072 : kindsInUse 131072 ≡ 84 ∷ 180 ∷ 372 ∷ 756 ∷ 1524 ∷ 3060 ∷ 6132 ∷ 12276 ∷ 24564 ∷ 49140 ∷ 98292 ∷ 196596 ∷ []
+  -- the greatest requests at which the kinds in use change
+  pub uses-edges : map kindsInUse (1 ∷ 12 ∷ 13 ∷ 36 ∷ 37 ∷ []) ≡ (12 ∷ []) ∷ (12 ∷ []) ∷ (12 ∷ 36 ∷ []) ∷ (12 ∷ 36 ∷ []) ∷ (12 ∷ 36 ∷ 84 ∷ []) ∷ []
+  pub uses-372 : map length (map kindsInUse (372 ∷ 373 ∷ 49140 ∷ 49141 ∷ 98292 ∷ 201326580 ∷ [])) ≡ 5 ∷ 6 ∷ 12 ∷ 12 ∷ 12 ∷ 12 ∷ []
+  pub rounds-256 : map (kindFor 256) (1 ∷ 12 ∷ 13 ∷ 36 ∷ 37 ∷ 180 ∷ 181 ∷ 256 ∷ []) ≡ 12 ∷ 12 ∷ 36 ∷ 36 ∷ 84 ∷ 180 ∷ 372 ∷ 372 ∷ []
+  pub rounds-131072 : map (kindFor 131072) (1 ∷ 84 ∷ 85 ∷ 98292 ∷ 98293 ∷ 131072 ∷ []) ≡ 84 ∷ 84 ∷ 180 ∷ 98292 ∷ 196596 ∷ 196596 ∷ []
+  -- top kind and 8 just fit, or miss by 4
+  pub taken : map (λ (n : ℕ). takes n with-kinds 1) (20 ∷ 16 ∷ []) ≡ true ∷ false ∷ []
+  pub taken-372 : map (λ (n : ℕ). takes n with-kinds 372) (380 ∷ 376 ∷ []) ≡ true ∷ false ∷ []
+  pub taken-373 : map (λ (n : ℕ). takes n with-kinds 373) (764 ∷ 760 ∷ []) ≡ true ∷ false ∷ []
+  pub taken-most : map (takes 65536 with-kinds) (0 ∷ 1 ∷ 49140 ∷ 49141 ∷ 201326580 ∷ 201326581 ∷ []) ≡ false ∷ true ∷ true ∷ false ∷ false ∷ false ∷ []
+  pub choices : map (λ (c : ℕ). takes 64 c 0) (0 ∷ 1 ∷ 2 ∷ []) ≡ true ∷ false ∷ false ∷ []
+  pub choices-12 : map (λ (c : ℕ). takes 64 c 12) (0 ∷ 1 ∷ 2 ∷ []) ≡ false ∷ true ∷ false ∷ []
+  -- a queue whose sizes are 1 to the greatest request, and that keeps what create takes
+  pub queue-sizes : map (λ (n : ℕ). isSound rules (with-size n)) (0 ∷ 1 ∷ 20 ∷ 21 ∷ []) ≡ false ∷ true ∷ true ∷ false ∷ []
+  pub queue-keeps : map (λ (a : Attributes). isSound rules (with-queue a [])) (kinds 20 ∷ kinds 36 ∷ kinds 37 ∷ kinds 0 ∷ defaults ∷ record { kinds = 0; greatest = 20 } ∷ record { kinds = 2; greatest = 20 } ∷ [])
+      ≡ true ∷ true ∷ false ∷ false ∷ true ∷ false ∷ false ∷ []
+  -- what the theorems ask of a state
+  pub bytes : below (state-kinds .bytes) ≡ true
+  pub places : length (state-kinds .queue .entries) ≡ 32
+  pub good : isSound rules state-kinds ≡ true
+  pub good-20 : isSound rules (with-size 20) ≡ true
+  pub told : perform rules (get (ask 3 20)) state-kinds .said .code ≡ waiting
+  pub bound : waitBound (with-size 20) 3 ≡ 2
+  pub waits-3 : waits 3 (waiters (with-size 20)) ≡ true
+  -- the wait lasts as long as the bound allows
+  pub wait-3 : waitOf rules (with-size 20) 3 (at 8 ∷ at 8 ∷ at 28 ∷ []) ≡ wait 2 1 2 2 (some e-ok)
+
+pub kinds-hold : Kinds
+unfolding total tiled fits firstFit carve granted startsAt holder join freed liveCount sumFree greatestFree blocksFrom le32 header overlay written mask render erase waits placeIn remove headTask insert blocked leads expired remaining queued smallest kindsFrom rules leave serve headStuck sound tests act pad used allUnused tidy view soundBy performBy run wakeCode endCode releases below
+kinds-hold =
+    record {
+      sizes = refl;
+      uses-256 = refl;
+      uses-131072 = refl;
+      uses-edges = refl;
+      uses-372 = refl;
+      rounds-256 = refl;
+      rounds-131072 = refl;
+      taken = refl;
+      taken-372 = refl;
+      taken-373 = refl;
+      taken-most = refl;
+      choices = refl;
+      choices-12 = refl;
+      queue-sizes = refl;
+      queue-keeps = refl;
+      bytes = refl;
+      places = refl;
+      good = refl;
+      good-20 = refl;
+      told = refl;
+      bound = refl;
+      waits-3 = refl;
+      wait-3 = refl;
+    }

@@ -1,17 +1,18 @@
--- What is proved of the calls: first over any rules that meet the laws, then for the pool of document 01. Assumes nothing.
-use Prim.Native.Nat.{ℕ, _*_, _≤_}
+-- What is proved of the calls: first over any rules that meet the laws, then for the pools that create makes, with size kinds and without. Assumes nothing.
+use Prim.Native.Nat.{ℕ, _+_, _-_, _*_, _^_, _≤_}
 use mathlib.Core.Path.{_≡_, refl, _∙_}
 use mathlib.Core.Bool.{true, false}
 use mathlib.Core.Logic.{_↔_, _⊎_}
 use mathlib.Core.List.{List}
 use mathlib.Core.Option.{Option, none, some}
 use native.Mathlib.Omega.{arith}
-use lib.ListN.{length}
+use lib.ListN.{length, getD}
 use lib.IntN.{pos}
 use Rattle.model.specs.Limits.{most-tasks, longest-pool, minus, e-ok, waiting, already-free}
 use Rattle.model.specs.Blocks.{Block}
 use Rattle.model.specs.Waiting.{Entry, waits, entryIn}
-use Rattle.model.specs.Rules.{Rules, Laws, queued, base}
+use Rattle.model.specs.Sizes.{kind, last-place, kindsFrom, topKind, SmallestKind}
+use Rattle.model.specs.Rules.{Rules, Laws, Attributes, queued, withoutKinds, mostAsked, rounded, rules}
 use Rattle.model.specs.Calls.{BlockOffset, noPlace, Request, Call, get, release, Refusal, refuse, entryOf, blocks, isLive, step}
 use Rattle.model.specs.Refusals.{Refused}
 use Rattle.model.specs.Runs.{after, run, refuses, refusedBy, Spared, releases, Unpassed, Others, Ranked}
@@ -28,14 +29,23 @@ use Rattle.model.proofs.Soundness.{open-sound}
 use Rattle.model.proofs.Fates.{none-away}
 use Rattle.model.proofs.Pool as P
 use Rattle.model.proofs.Pool.{open-stored}
-use Rattle.model.proofs.Base.{base-laws, base-long, base-one-rank, base-unpassed}
+use Rattle.model.proofs.Sizes.{kinds-rule, top-holds, top-least}
+use Rattle.model.proofs.Rules.{open-size, rounds, entry-allowed, rules-laws, rules-long, rules-one-rank, rules-unpassed}
 use Rattle.model.proofs.Reached.{bound-reached}
 
-module _ (R : ℕ → Rules) (law : (n : ℕ) → Laws (R n)) (long-is : (n : ℕ) → R n .long ≡ n) where
+module _ (R : Attributes → ℕ → Rules) (law : (a : Attributes) (n : ℕ) → Laws (R a n)) (long-is : (a : Attributes) (n : ℕ) → R a n .long ≡ n) where
   -- ---- a sound state stays sound
 
-  pub create-sound : (l : List ℕ) → R (length l) .valid ≡ true → isSound R (create R l .state) ≡ true
-  create-sound l v = P.create-sound R law long-is l v
+  pub create-sound : (a : Attributes) (l : List ℕ) → R a (length l) .valid ≡ true → isSound R (create R a l .state) ≡ true
+  create-sound a l v = P.create-sound R law long-is a l v
+
+  -- create takes what the queue of a sound state keeps, and every call keeps it
+  pub sound-taken : (p : Stored) → isSound R p ≡ true → create R (p .queue .attributes) (p .bytes) .said .code ≡ e-ok
+  unfolding create
+  sound-taken p h = let K = rulesOf R p in rw (open-sound K (blocks K) (view p) (open-stored K p h .0) .valid)
+
+  pub attributes-kept : (c : Call) (p : Stored) → perform R c p .state .queue .attributes ≡ p .queue .attributes
+  attributes-kept c p = P.attributes-by (rulesOf R p) c p
 
   pub call-sound : (c : Call) (p : Stored) → isSound R p ≡ true → isSound R (perform R c p .state) ≡ true
   call-sound c p h = P.perform-sound R law long-is c p h
@@ -80,25 +90,27 @@ module _ (R : ℕ → Rules) (law : (n : ℕ) → Laws (R n)) (long-is : (n : �
   run-seen p cs h = P.run-view R law long-is p cs h
 
   -- block list from bytes
-  pub blocks-of-render : (bs : List Block) (l : List ℕ) → R (length l) .valid ≡ true → blocks (R (length l)) .sound bs ≡ true → blocksOf (render bs l) ≡ bs
-  blocks-of-render bs l v h =
+  pub blocks-of-render : (a : Attributes) (bs : List Block) (l : List ℕ) → R a (length l) .valid ≡ true → blocks (R a (length l)) .sound bs ≡ true → blocksOf (render bs l) ≡ bs
+  blocks-of-render a bs l v h =
       let n = length l in
-      let o = open-blocks (R n) bs h in
-      blocks-render (R n .tasks) (omega (arith, law n .tasks-most)) false bs l (o .tiling) (o .sums ∙ long-is n) (omega (arith, law n .long-most v, long-is n))
+      let L = law a n in
+      let long = long-is a n in
+      let o = open-blocks (R a n) bs h in
+      blocks-render (R a n .tasks) (omega (arith, L .tasks-most)) false bs l (o .tiling) (o .sums ∙ long) (omega (arith, L .long-most v, long))
 
   -- bytes from block list
   pub render-of-blocks : (p : Stored) → isSound R p ≡ true → Typed p → render (blocksOf (p .bytes)) (p .bytes) ≡ p .bytes
   unfolding view
   render-of-blocks p h t =
-      let n = length (p .bytes) in
-      let o = open-blocks (R n) (blocksOf (p .bytes)) (open-sound (R n) (blocks (R n)) (view p) (open-stored (R n) p h .0) .pool) in
-      render-blocks (R n .tasks) (p .bytes) (o .tiling) (o .sums ∙ long-is n) (t .byte)
+      let K = rulesOf R p in
+      let o = open-blocks K (blocksOf (p .bytes)) (open-sound K (blocks K) (view p) (open-stored K p h .0) .pool) in
+      render-blocks (K .tasks) (p .bytes) (o .tiling) (o .sums ∙ long-is (p .queue .attributes) (length (p .bytes))) (t .byte)
 
   -- entries from places, and places from entries
-  pub entries-of-queue : (n : ℕ) (q : List Entry) → queued (R n) q ≡ true → entriesOf (queueOf q) ≡ q
-  entries-of-queue n q h = used-pad most-tasks q (queued-live (R n) q h) (omega (arith, queued-length (R n) q h, law n .tasks-most))
+  pub entries-of-queue : (a : Attributes) (n : ℕ) (q : List Entry) → queued (R a n) q ≡ true → entriesOf (queueOf a q) ≡ q
+  entries-of-queue a n q h = used-pad most-tasks q (queued-live (R a n) q h) (omega (arith, queued-length (R a n) q h, law a n .tasks-most))
 
-  pub queue-of-entries : (p : Stored) → isSound R p ≡ true → Typed p → queueOf (entriesOf (p .queue)) ≡ p .queue
+  pub queue-of-entries : (p : Stored) → isSound R p ≡ true → Typed p → queueOf (p .queue .attributes) (entriesOf (p .queue)) ≡ p .queue
   queue-of-entries p h t = queue-entries (p .queue) (t .places) (open-stored (rulesOf R p) p h .1)
 
   -- the woken list has room for all, and so has the queue, by `call-seen` and `entries-of-queue`
@@ -137,82 +149,112 @@ module _ (R : ℕ → Rules) (law : (n : ℕ) → Laws (R n)) (long-is : (n : �
       → waitBound p t ≤ releases (run (perform R) p cs) → EndsWithin (perform R) p t (waitBound p t) cs
   wait-bound p t e cs h here up n = P.perform-bound R law long-is p t e cs h here up n
 
--- ---- the pool of document 01
+-- ---- size kinds
 
-pub base-create-sound : (l : List ℕ) → base (length l) .valid ≡ true → isSound base (create base l .state) ≡ true
-base-create-sound = create-sound base base-laws base-long
+-- number i of the table, counted from 1, is 24 times 2^(i-1), less 12
+pub kind-number : (i : ℕ) → 1 ≤ i → i ≤ last-place + 1 → getD (kindsFrom 0 (last-place + 1)) (i - 1) 0 ≡ 24 * 2 ^ (i - 1) - 12
+kind-number = kinds-rule
 
-pub base-call-sound : (c : Call) (p : Stored) → isSound base p ≡ true → isSound base (perform base c p .state) ≡ true
-base-call-sound = call-sound base base-laws base-long
+-- the top kind is the smallest that is at least the greatest request
+pub top-kind : (m : ℕ) → m ≤ kind last-place → (m ≤ topKind m) × ((j : ℕ) → m ≤ kind j → topKind m ≤ kind j)
+top-kind m h = (top-holds m h, top-least m)
 
-pub base-run-sound : (p : Stored) (cs : List Call) → isSound base p ≡ true → isSound base (after (perform base) p cs) ≡ true
-base-run-sound = run-sound base base-laws base-long
+-- a size that may be asked is rounded to the smallest kind in use that holds it
+pub pool-rounds : (a : Attributes) (n : ℕ) → withoutKinds a ≡ false → rules a n .valid ≡ true → (e : Entry) → rules a n .allowed e ≡ true
+    → SmallestKind (a .greatest) (e .size) (rounded a (e .size))
+pool-rounds = rounds
 
-pub base-refusal-keeps : (c : Call) (p : Stored) (k : Refusal) → refusedBy (perform base c p .said) ≡ some k → perform base c p ≡ refuse p k
-base-refusal-keeps = refusal-keeps base base-laws base-long
+-- in a sound state a task that waits asked for 1 byte to the greatest request
+pub pool-sizes-asked : (p : Stored) (t : ℕ) (e : Entry) → isSound rules p ≡ true → entryIn t (waiters p) ≡ some e → (1 ≤ e .size) × (e .size ≤ mostAsked (p .queue .attributes) (length (p .bytes)))
+unfolding view rules
+pool-sizes-asked p t e h w =
+    let K = rulesOf rules p in
+    let o = open-sound K (blocks K) (view p) (open-stored K p h .0) in
+    let s = open-size (mostAsked (p .queue .attributes) (length (p .bytes))) (e .size) (entry-allowed K t e (waiters p) (o .order) w) in
+    (s .least, s .most)
 
-pub base-refusal-when : (c : Call) (p : Stored) (k : Refusal) → (refusedBy (perform base c p .said) ≡ some k) ↔ Refused (rulesOf base p) (blocks (rulesOf base p)) (isSound base p) (view p) c k
-base-refusal-when = refusal-when base base-laws base-long
+-- ---- the pools that create makes
 
-pub base-release-refused-when : (o : BlockOffset) (p : Stored)
-    → (refuses (perform base (release o) p .said .code) ≡ true) ↔ (((perform base (release o) p .said .reason ≡ 0) → ⊥) ⊎ (isSound base p ≡ false))
-base-release-refused-when = release-refused-when base base-laws base-long
+pub pool-create-sound : (a : Attributes) (l : List ℕ) → rules a (length l) .valid ≡ true → isSound rules (create rules a l .state) ≡ true
+pool-create-sound = create-sound rules rules-laws rules-long
 
-pub base-done-no-reason : (c : Call) (p : Stored) → refusedBy (perform base c p .said) ≡ none → (perform base c p .said .reason ≡ 0) × (perform base c p .said .place ≡ noPlace)
-base-done-no-reason = done-no-reason base base-laws base-long
+pub pool-sound-taken : (p : Stored) → isSound rules p ≡ true → create rules (p .queue .attributes) (p .bytes) .said .code ≡ e-ok
+pool-sound-taken = sound-taken rules rules-laws rules-long
 
-pub base-release-refused-live : (o : BlockOffset) (p : Stored) → isSound base p ≡ true
-    → (refuses (perform base (release o) p .said .code) ≡ true) ↔ (isLive (rulesOf base p) (blocks (rulesOf base p)) o (view p .pool) ≡ false)
-base-release-refused-live = release-refused-live base base-laws base-long
+pub pool-attributes-kept : (c : Call) (p : Stored) → perform rules c p .state .queue .attributes ≡ p .queue .attributes
+pool-attributes-kept = attributes-kept rules rules-laws rules-long
 
-pub base-release-place : (o : BlockOffset) (p : Stored) → already-free ≤ perform base (release o) p .said .reason → OneHolder (o .0) (blocksOf (p .bytes)) (perform base (release o) p .said .place .0)
-base-release-place = release-place base base-laws base-long
+pub pool-call-sound : (c : Call) (p : Stored) → isSound rules p ≡ true → isSound rules (perform rules c p .state) ≡ true
+pool-call-sound = call-sound rules rules-laws rules-long
 
-pub base-call-seen : (c : Call) (p : Stored) → isSound base p ≡ true → Seen base c p
-base-call-seen = call-seen base base-laws base-long
+pub pool-run-sound : (p : Stored) (cs : List Call) → isSound rules p ≡ true → isSound rules (after (perform rules) p cs) ≡ true
+pool-run-sound = run-sound rules rules-laws rules-long
 
-pub base-run-seen : (p : Stored) (cs : List Call) → isSound base p ≡ true → run (perform base) p cs ≡ run (step (rulesOf base p) (blocks (rulesOf base p))) (view p) cs
-base-run-seen = run-seen base base-laws base-long
+pub pool-refusal-keeps : (c : Call) (p : Stored) (k : Refusal) → refusedBy (perform rules c p .said) ≡ some k → perform rules c p ≡ refuse p k
+pool-refusal-keeps = refusal-keeps rules rules-laws rules-long
 
-pub base-blocks-of-render : (bs : List Block) (l : List ℕ) → base (length l) .valid ≡ true → blocks (base (length l)) .sound bs ≡ true → blocksOf (render bs l) ≡ bs
-base-blocks-of-render = blocks-of-render base base-laws base-long
+pub pool-refusal-when : (c : Call) (p : Stored) (k : Refusal) → (refusedBy (perform rules c p .said) ≡ some k) ↔ Refused (rulesOf rules p) (blocks (rulesOf rules p)) (isSound rules p) (view p) c k
+pool-refusal-when = refusal-when rules rules-laws rules-long
 
-pub base-render-of-blocks : (p : Stored) → isSound base p ≡ true → Typed p → render (blocksOf (p .bytes)) (p .bytes) ≡ p .bytes
-base-render-of-blocks = render-of-blocks base base-laws base-long
+pub pool-release-refused-when : (o : BlockOffset) (p : Stored)
+    → (refuses (perform rules (release o) p .said .code) ≡ true) ↔ (((perform rules (release o) p .said .reason ≡ 0) → ⊥) ⊎ (isSound rules p ≡ false))
+pool-release-refused-when = release-refused-when rules rules-laws rules-long
 
-pub base-entries-of-queue : (n : ℕ) (q : List Entry) → queued (base n) q ≡ true → entriesOf (queueOf q) ≡ q
-base-entries-of-queue = entries-of-queue base base-laws base-long
+pub pool-done-no-reason : (c : Call) (p : Stored) → refusedBy (perform rules c p .said) ≡ none → (perform rules c p .said .reason ≡ 0) × (perform rules c p .said .place ≡ noPlace)
+pool-done-no-reason = done-no-reason rules rules-laws rules-long
 
-pub base-queue-of-entries : (p : Stored) → isSound base p ≡ true → Typed p → queueOf (entriesOf (p .queue)) ≡ p .queue
-base-queue-of-entries = queue-of-entries base base-laws base-long
+pub pool-release-refused-live : (o : BlockOffset) (p : Stored) → isSound rules p ≡ true
+    → (refuses (perform rules (release o) p .said .code) ≡ true) ↔ (isLive (rulesOf rules p) (blocks (rulesOf rules p)) o (view p .pool) ≡ false)
+pool-release-refused-live = release-refused-live rules rules-laws rules-long
 
-pub base-woken-fit : (c : Call) (p : Stored) → isSound base p ≡ true → length (perform base c p .said .woken) ≤ most-tasks
-base-woken-fit = woken-fit base base-laws base-long
+pub pool-release-place : (o : BlockOffset) (p : Stored) → already-free ≤ perform rules (release o) p .said .reason → OneHolder (o .0) (blocksOf (p .bytes)) (perform rules (release o) p .said .place .0)
+pool-release-place = release-place rules rules-laws rules-long
 
-pub base-cancel-no-trace : (p : Stored) (f : Request) (rs : List Request) → isSound base p ≡ true → Typed p → perform base (get f) p .said .code ≡ waiting
-    → Others (f .task) rs → NoTrace (perform base) p f rs
-base-cancel-no-trace p f rs h t z os = cancel-no-trace base base-laws base-long p f rs h t z os (base-one-rank (length (p .bytes)) (entryOf f) rs)
+pub pool-call-seen : (c : Call) (p : Stored) → isSound rules p ≡ true → Seen rules c p
+pool-call-seen = call-seen rules rules-laws rules-long
 
-pub base-release-undoes : (p : Stored) (r : Request) → isSound base p ≡ true → Typed p → perform base (get r) p .said .code ≡ e-ok → Undone p (undo (perform base) p r)
-base-release-undoes = release-undoes base base-laws base-long
+pub pool-run-seen : (p : Stored) (cs : List Call) → isSound rules p ≡ true → run (perform rules) p cs ≡ run (step (rulesOf rules p) (blocks (rulesOf rules p))) (view p) cs
+pool-run-seen = run-seen rules rules-laws rules-long
 
-pub base-timeout : (p : Stored) (f : Request) (n : ℕ) (cs : List Call) → isSound base p ≡ true → f .limit ≡ pos n → perform base (get f) p .said .code ≡ waiting
-    → Spared (f .task) (run (perform base) (perform base (get f) p .state) cs) → Timeout (perform base) waiters (perform base (get f) p .state) (f .task) n cs
-base-timeout = timeout base base-laws base-long
+pub pool-blocks-of-render : (a : Attributes) (bs : List Block) (l : List ℕ) → rules a (length l) .valid ≡ true → blocks (rules a (length l)) .sound bs ≡ true → blocksOf (render bs l) ≡ bs
+pool-blocks-of-render = blocks-of-render rules rules-laws rules-long
 
-pub base-unlimited : (p : Stored) (f : Request) (cs : List Call) → isSound base p ≡ true → f .limit ≡ minus 1 → perform base (get f) p .said .code ≡ waiting
-    → Spared (f .task) (run (perform base) (perform base (get f) p .state) cs) → Untimed (perform base) waiters (perform base (get f) p .state) (f .task) cs
-base-unlimited = unlimited base base-laws base-long
+pub pool-render-of-blocks : (p : Stored) → isSound rules p ≡ true → Typed p → render (blocksOf (p .bytes)) (p .bytes) ≡ p .bytes
+pool-render-of-blocks = render-of-blocks rules rules-laws rules-long
+
+pub pool-entries-of-queue : (a : Attributes) (n : ℕ) (q : List Entry) → queued (rules a n) q ≡ true → entriesOf (queueOf a q) ≡ q
+pool-entries-of-queue = entries-of-queue rules rules-laws rules-long
+
+pub pool-queue-of-entries : (p : Stored) → isSound rules p ≡ true → Typed p → queueOf (p .queue .attributes) (entriesOf (p .queue)) ≡ p .queue
+pool-queue-of-entries = queue-of-entries rules rules-laws rules-long
+
+pub pool-woken-fit : (c : Call) (p : Stored) → isSound rules p ≡ true → length (perform rules c p .said .woken) ≤ most-tasks
+pool-woken-fit = woken-fit rules rules-laws rules-long
+
+pub pool-cancel-no-trace : (p : Stored) (f : Request) (rs : List Request) → isSound rules p ≡ true → Typed p → perform rules (get f) p .said .code ≡ waiting
+    → Others (f .task) rs → NoTrace (perform rules) p f rs
+pool-cancel-no-trace p f rs h t z os = cancel-no-trace rules rules-laws rules-long p f rs h t z os (rules-one-rank (p .queue .attributes) (length (p .bytes)) (entryOf f) rs)
+
+pub pool-release-undoes : (p : Stored) (r : Request) → isSound rules p ≡ true → Typed p → perform rules (get r) p .said .code ≡ e-ok → Undone p (undo (perform rules) p r)
+pool-release-undoes = release-undoes rules rules-laws rules-long
+
+pub pool-timeout : (p : Stored) (f : Request) (n : ℕ) (cs : List Call) → isSound rules p ≡ true → f .limit ≡ pos n → perform rules (get f) p .said .code ≡ waiting
+    → Spared (f .task) (run (perform rules) (perform rules (get f) p .state) cs) → Timeout (perform rules) waiters (perform rules (get f) p .state) (f .task) n cs
+pool-timeout = timeout rules rules-laws rules-long
+
+pub pool-unlimited : (p : Stored) (f : Request) (cs : List Call) → isSound rules p ≡ true → f .limit ≡ minus 1 → perform rules (get f) p .said .code ≡ waiting
+    → Spared (f .task) (run (perform rules) (perform rules (get f) p .state) cs) → Untimed (perform rules) waiters (perform rules (get f) p .state) (f .task) cs
+pool-unlimited = unlimited rules rules-laws rules-long
 
 -- all are of one rank
-pub base-wait-bound : (p : Stored) (t : ℕ) (cs : List Call) → isSound base p ≡ true → waits t (waiters p) ≡ true
-    → waitBound p t ≤ releases (run (perform base) p cs) → EndsWithin (perform base) p t (waitBound p t) cs
-base-wait-bound p t cs h w n = go (entryIn t (waiters p)) refl
+pub pool-wait-bound : (p : Stored) (t : ℕ) (cs : List Call) → isSound rules p ≡ true → waits t (waiters p) ≡ true
+    → waitBound p t ≤ releases (run (perform rules) p cs) → EndsWithin (perform rules) p t (waitBound p t) cs
+pool-wait-bound p t cs h w n = go (entryIn t (waiters p)) refl
   where
-    go : (v : Option Entry) → entryIn t (waiters p) ≡ v → EndsWithin (perform base) p t (waitBound p t) cs
+    go : (v : Option Entry) → entryIn t (waiters p) ≡ v → EndsWithin (perform rules) p t (waitBound p t) cs
     go none e = clash (waits t (waiters p)) w (none-away t (waiters p) e)
-    go (some x) e = wait-bound base base-laws base-long p t x cs h e (base-unpassed (length (p .bytes)) t x (run (perform base) p cs)) n
+    go (some x) e = wait-bound rules rules-laws rules-long p t x cs h e (rules-unpassed (p .queue .attributes) (length (p .bytes)) t x (run (perform rules) p cs)) n
 
 -- for every number of live blocks and every place there is a wait that lasts so long
-pub base-bound-reached : (live k : ℕ) → 1 ≤ live → 12 * live ≤ longest-pool → 1 ≤ k → k ≤ most-tasks → Reached live k
-base-bound-reached = bound-reached
+pub pool-bound-reached : (live k : ℕ) → 1 ≤ live → 12 * live ≤ longest-pool → 1 ≤ k → k ≤ most-tasks → Reached live k
+pool-bound-reached = bound-reached

@@ -9,14 +9,14 @@ use lib.IntN.{ℤ}
 use Rattle.model.specs.Limits.{e-ok, e-rlwai, e-tmout}
 use Rattle.model.specs.Blocks.{Block, total, liveCount}
 use Rattle.model.specs.Waiting.{Entry, waits, placeIn}
-use Rattle.model.specs.Rules.{Rules, base}
+use Rattle.model.specs.Rules.{Rules, Attributes, rules}
 use Rattle.model.specs.Calls.{BlockOffset, noOffset, Request, Call, get, release, cancel, tick, Reply, says, leaves, blocks, step}
 use Rattle.model.specs.Runs.{after, run, wakeCode, endCode, ticks, releases, gets, refusals, winners}
 use Rattle.model.specs.Bytes.{blocksOf}
-use Rattle.model.specs.Pool.{Stored, view, waiters, waitBound, rulesOf, isSound, perform}
+use Rattle.model.specs.Pool.{Stored, view, waiters, waitBound, defaults, rulesOf, isSound, perform}
 
 -- Demand 2: a call on bytes and places is told what the call on block list and entries is told, and leaves what that leaves.
-pub record Seen (R : ℕ → Rules) (c : Call) (p : Stored) : Type 0 where
+pub record Seen (R : Attributes → ℕ → Rules) (c : Call) (p : Stored) : Type 0 where
   pub said : perform R c p .said ≡ step (rulesOf R p) (blocks (rulesOf R p)) c (view p) .said
   pub state : view (perform R c p .state) ≡ step (rulesOf R p) (blocks (rulesOf R p)) c (view p) .state
 
@@ -75,11 +75,12 @@ pub record ServedAt {S : Type 0} (step : Call → S → Reply S) (s : S) (t n : 
 pub record Reached (live k : ℕ) : Type 0 where
   pub from : Stored
   pub task : ℕ
-  pub good : isSound base from ≡ true
+  pub made : from .queue .attributes ≡ defaults
+  pub good : isSound rules from ≡ true
   pub count : liveCount (blocksOf (from .bytes)) ≡ live
   pub waiting : waits task (waiters from) ≡ true
   pub place : placeIn task (waiters from) ≡ k
-  pub served : ServedAt (perform base) from task (waitBound from task)
+  pub served : ServedAt (perform rules) from task (waitBound from task)
 
 -- a block of the list, with its header at the place a, has the byte i among its bytes
 pub record HolderOf (i : ℕ) (bs : List Block) (a : ℕ) : Type 0 where

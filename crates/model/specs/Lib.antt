@@ -1,6 +1,7 @@
 pub mod Limits
 pub mod Blocks
 pub mod Waiting
+pub mod Sizes
 pub mod Rules
 pub mod Calls
 pub mod Refusals

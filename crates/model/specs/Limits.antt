@@ -1,4 +1,4 @@
--- The limits of document 01, and the codes that a call answers.
+-- The limits of document 01, the choices of create, and the codes that a call answers.
 use Prim.Native.Nat.{ℕ, _+_, _-_}
 use lib.IntN.{ℤ, pos, negsuc}
 
@@ -23,6 +23,16 @@ longest-left = longest-limit + 1
 -- the time left of a wait without a limit
 abbrev pub forever : ℕ
 forever = 4294967295
+
+-- ---- choices of create
+
+-- sizes asked are rounded up to a multiple of 4
+abbrev pub without-kinds : ℕ
+without-kinds = 0
+
+-- or to the size kinds of the pool
+abbrev pub with-kinds : ℕ
+with-kinds = 1
 
 -- ---- codes, by their names in the µITRON 4.0 specification
 

@@ -7,6 +7,7 @@ use lib.IntN.{pos}
 pub use Rattle.model.specs.declared.Queue.{Queue}
 use Rattle.model.specs.Limits.{most-tasks}
 use Rattle.model.specs.Waiting.{Entry}
+use Rattle.model.specs.Rules.{Attributes}
 use Rattle.model.specs.Calls.{Woken, noOffset}
 
 abbrev pub noEntry : Entry
@@ -41,8 +42,8 @@ tidy (e ∷ r) = cond (eqb (e .task) 0) (allUnused (e ∷ r)) (tidy r)
 abbrev pub entriesOf : Queue → List Entry
 entriesOf q = used (q .entries)
 
-abbrev pub queueOf : List Entry → Queue
-queueOf es = record { entries = pad noEntry most-tasks es }
+abbrev pub queueOf : Attributes → List Entry → Queue
+queueOf a es = record { attributes = a; entries = pad noEntry most-tasks es }
 
 abbrev pub wokenOf : List Woken → List Woken
 wokenOf ws = pad noWoken most-tasks ws

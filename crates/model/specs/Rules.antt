@@ -1,13 +1,15 @@
--- What may vary from pool to pool, what is asked of it, and the pool of document 01.
+-- What may vary from pool to pool, what is asked of it, and the pools that create makes.
 use Prim.Native.Nat.{ℕ, _+_, _-_, _*_, _/_, _%_, _≤_, _<_}
 use mathlib.Core.Path.{_≡_}
-use mathlib.Core.Bool.{Bool, true, _&&_}
+use mathlib.Core.Bool.{Bool, true, cond, _&&_}
 use mathlib.Core.List.{List, [], _∷_}
 use lib.Dec.{leb, eqb}
-use Rattle.model.specs.Limits.{most-tasks, longest-pool}
+use Rattle.model.specs.Limits.{most-tasks, longest-pool, without-kinds, with-kinds}
+use Rattle.model.specs.Sizes.{kindFor, okGreatest}
 use Rattle.model.specs.Waiting.{Entry, leads, okLeft, withLeft}
+pub use Rattle.model.specs.declared.Attributes.{Attributes}
 
--- `valid`: create takes a pool of the length `long`. `tasks`: the greatest task number. `allowed`: what an entry may ask (the tests that answer -17,
+-- `valid`: create takes such a pool. `long`: its length. `tasks`: the greatest task number. `allowed`: what an entry may ask (the tests that answer -17,
 -- but for the limit). `need`: the size of the block for a size asked. `rank`: the order of the queue, lower first.
 pub record Rules : Type 0 where
   pub valid : Bool
@@ -41,20 +43,43 @@ module _ (K : Rules) where
   queued [] = true
   queued (x ∷ q) = okEntry x && (leads (K .rank) x q && queued q)
 
--- ---- the pool of document 01
+-- ---- the pools that create makes
 
 -- lengths are 12 to the greatest, multiples of 4
 abbrev pub okLong : ℕ → Bool
 okLong n = eqb (n % 4) 0 && (leb 12 n && leb n longest-pool)
 
--- *Need*: the size rounded up to a multiple of 4, plus 8
-abbrev pub needOf : ℕ → ℕ
-needOf size = (size + 3) / 4 * 4 + 8
+abbrev pub withoutKinds : Attributes → Bool
+withoutKinds a = eqb (a .kinds) without-kinds
 
--- sizes asked are 1 to N - 8
+-- what create takes besides a length: without kinds no greatest request, with kinds one that the pool has room for, and no other choice
+abbrev pub okAttributes : Attributes → ℕ → Bool
+okAttributes a n = cond (withoutKinds a) (eqb (a .greatest) 0) (eqb (a .kinds) with-kinds && okGreatest (a .greatest) n)
+
+-- the greatest size that may be asked: N - 8, with kinds the greatest request
+abbrev pub mostAsked : Attributes → ℕ → ℕ
+mostAsked a n = cond (withoutKinds a) (n - 8) (a .greatest)
+
+-- sizes asked are 1 to this
 abbrev pub okSize : ℕ → ℕ → Bool
-okSize n size = leb 1 size && leb size (n - 8)
+okSize most size = leb 1 size && leb size most
 
--- the rules of a pool of N bytes: who asked first is served first
-unfoldable pub base : ℕ → Rules
-base n = record { valid = okLong n; long = n; tasks = most-tasks; allowed = λ e. okSize n (e .size); need = needOf; rank = λ e. 0 }
+-- rounded up to a multiple of 4, with kinds to the smallest in use that holds the size
+abbrev pub rounded : Attributes → ℕ → ℕ
+rounded a size = cond (withoutKinds a) ((size + 3) / 4 * 4) (kindFor (a .greatest) size)
+
+-- *Need*: the size rounded, plus 8
+abbrev pub needOf : Attributes → ℕ → ℕ
+needOf a size = rounded a size + 8
+
+-- the rules of a pool of n bytes made with the attributes a: who asked first is served first
+unfoldable pub rules : Attributes → ℕ → Rules
+rules a n =
+    record {
+      valid = okLong n && okAttributes a n;
+      long = n;
+      tasks = most-tasks;
+      allowed = λ e. okSize (mostAsked a n) (e .size);
+      need = needOf a;
+      rank = λ e. 0;
+    }

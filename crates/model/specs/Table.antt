@@ -1,14 +1,14 @@
--- Document 01's examples marked *, the reasons of a refused release, and the greatest time limit, as one table: in each row a pool is created and called, and all that is expected is written down.
+-- Document 01's examples marked *, the reasons of a refused release, the greatest time limit, and size kinds, as one table: in each row a pool is created and called, and all that is expected is written down.
 use Prim.Native.Nat.{ℕ, _+_, _-_}
 use mathlib.Core.List.{List, [], _∷_, _++_}
 use lib.ListN.{replicate}
 use lib.IntN.{ℤ, pos}
-use Rattle.model.specs.Limits.{forever, minus, e-ok, waiting, e-par, e-id, e-ctx, e-obj, e-rlwai, e-tmout, out-of-range, misaligned, already-free, inside-block}
+use Rattle.model.specs.Limits.{with-kinds, forever, minus, e-ok, waiting, e-par, e-id, e-ctx, e-obj, e-rlwai, e-tmout, out-of-range, misaligned, already-free, inside-block}
 use Rattle.model.specs.Blocks.{Block, block}
 use Rattle.model.specs.Waiting.{Entry}
-use Rattle.model.specs.Rules.{base}
+use Rattle.model.specs.Rules.{Attributes, rules}
 use Rattle.model.specs.Calls.{Woken, Call, get, poll, release, cancel, tick, inquire, Said, Reply, says}
-use Rattle.model.specs.Pool.{Stored, view, perform, create}
+use Rattle.model.specs.Pool.{Stored, view, defaults, perform, create}
 
 -- a call, what it is told, and the block list and queue that it leaves
 pub record Line : Type 0 where
@@ -17,8 +17,9 @@ pub record Line : Type 0 where
   pub blocks : List Block
   pub queue : List Entry
 
--- a pool of `long` bytes, each 170 before it is created; the code of its creation, the calls, and the bytes at the end
+-- a pool with the attributes `made`, of `long` bytes, each 170 before it is created; the code of its creation, the calls, and the bytes at the end
 pub record Row : Type 0 where
+  pub made : Attributes
   pub long : ℕ
   pub code : ℤ
   pub lines : List Line
@@ -31,22 +32,24 @@ lineOf c r = record { call = c; said = r .said; blocks = view (r .state) .pool; 
 
 unfoldable pub linesFrom : Stored → List Line → List Line
 linesFrom p [] = []
-linesFrom p (x ∷ xs) = lineOf (x .call) (perform base (x .call) p) ∷ linesFrom (perform base (x .call) p .state) xs
+linesFrom p (x ∷ xs) = lineOf (x .call) (perform rules (x .call) p) ∷ linesFrom (perform rules (x .call) p .state) xs
 
 unfoldable pub stateFrom : Stored → List Line → Stored
 stateFrom p [] = p
-stateFrom p (x ∷ xs) = stateFrom (perform base (x .call) p .state) xs
+stateFrom p (x ∷ xs) = stateFrom (perform rules (x .call) p .state) xs
 
-abbrev pub fresh : ℕ → Reply Stored
-fresh n = create base (replicate n 170)
+abbrev pub fresh : Attributes → ℕ → Reply Stored
+fresh a n = create rules a (replicate n 170)
 
 abbrev pub played : Row → Row
 played r =
+    let begun = fresh (r .made) (r .long) in
     record {
+      made = r .made;
       long = r .long;
-      code = fresh (r .long) .said .code;
-      lines = linesFrom (fresh (r .long) .state) (r .lines);
-      bytes = stateFrom (fresh (r .long) .state) (r .lines) .bytes;
+      code = begun .said .code;
+      lines = linesFrom (begun .state) (r .lines);
+      bytes = stateFrom (begun .state) (r .lines) .bytes;
     }
 
 unfoldable pub playedAll : List Row → List Row
@@ -109,21 +112,22 @@ abbrev bytes-c : List ℕ
 bytes-c = head 20 1 ++ body 12 ++ head 28 2 ++ body 20 ++ head 16 0 ++ body 8
 
 abbrev pub row-a : Row
-row-a = record { long = 64; code = e-ok; lines = []; bytes = head 64 0 ++ body 56 }
+row-a = record { made = defaults; long = 64; code = e-ok; lines = []; bytes = head 64 0 ++ body 56 }
 
 abbrev pub row-b : Row
-row-b = record { long = 64; code = e-ok; lines = line (wants 1 10) (told e-ok 8 []) blocks-b [] ∷ []; bytes = head 20 1 ++ body 12 ++ head 44 0 ++ body 36 }
+row-b = record { made = defaults; long = 64; code = e-ok; lines = line (wants 1 10) (told e-ok 8 []) blocks-b [] ∷ []; bytes = head 20 1 ++ body 12 ++ head 44 0 ++ body 36 }
 
 abbrev pub row-c : Row
-row-c = record { long = 64; code = e-ok; lines = to-c; bytes = bytes-c }
+row-c = record { made = defaults; long = 64; code = e-ok; lines = to-c; bytes = bytes-c }
 
 abbrev pub row-e : Row
-row-e = record { long = 64; code = e-ok; lines = to-e; bytes = bytes-c }
+row-e = record { made = defaults; long = 64; code = e-ok; lines = to-e; bytes = bytes-c }
 
 -- after e also what inquire tells
 abbrev pub row-f : Row
 row-f =
     record {
+      made = defaults;
       long = 64;
       code = e-ok;
       lines = to-e ++ (line (poll 5 4) (told e-tmout 0 []) blocks-c queue-e
@@ -135,6 +139,7 @@ row-f =
 abbrev pub row-g : Row
 row-g =
     record {
+      made = defaults;
       long = 64;
       code = e-ok;
       lines = to-e ++ (line (cancel 3) (told e-ok 0 (woke 3 e-rlwai 0 ∷ woke 4 e-ok 56 ∷ [])) (block 20 1 ∷ block 28 2 ∷ block 16 4 ∷ []) [] ∷ []);
@@ -144,6 +149,7 @@ row-g =
 abbrev pub row-h : Row
 row-h =
     record {
+      made = defaults;
       long = 64;
       code = e-ok;
       lines = to-e ++ (line (at 8) (told e-ok 0 (woke 3 e-ok 8 ∷ woke 4 e-ok 56 ∷ [])) (block 20 3 ∷ block 28 2 ∷ block 16 4 ∷ []) [] ∷ []);
@@ -154,6 +160,7 @@ row-h =
 abbrev pub row-i : Row
 row-i =
     record {
+      made = defaults;
       long = 64;
       code = e-ok;
       lines = to-c ++ (line (at 28) (told e-ok 0 []) blocks-b [] ∷ []);
@@ -164,6 +171,7 @@ abbrev pub row-j : Row
 row-j =
     let blocks-j = block 20 0 ∷ block 28 2 ∷ block 16 0 ∷ [] in
     record {
+      made = defaults;
       long = 64;
       code = e-ok;
       lines = to-c ++ (line (at 12) (told-why inside-block 0) blocks-c []
@@ -177,6 +185,7 @@ row-j =
 abbrev pub row-k : ℕ → ℕ → Row
 row-k n most =
     record {
+      made = defaults;
       long = n;
       code = e-ok;
       lines = line (wants 1 (most + 1)) (told e-par 0 []) (block n 0 ∷ []) [] ∷ line (wants 1 most) (told e-ok 8 []) (block n 1 ∷ []) [] ∷ [];
@@ -187,6 +196,7 @@ row-k n most =
 abbrev pub row-l : Row
 row-l =
     record {
+      made = defaults;
       long = 64;
       code = e-ok;
       lines = to-c ++ (line (wantsFor 3 12 1) (told waiting 0 []) blocks-c (waitsFor 3 12 2 ∷ [])
@@ -201,6 +211,7 @@ row-l =
 abbrev pub row-longest : Row
 row-longest =
     record {
+      made = defaults;
       long = 64;
       code = e-ok;
       lines = to-c ++ (line (wantsFor 3 12 2147483648) (told e-par 0 []) blocks-c []
@@ -214,6 +225,7 @@ row-longest =
 abbrev pub row-split : Row
 row-split =
     record {
+      made = defaults;
       long = 64;
       code = e-ok;
       lines = line (wants 1 44) (told e-ok 8 []) (block 52 1 ∷ block 12 0 ∷ []) [] ∷ [];
@@ -221,12 +233,13 @@ row-split =
     }
 
 abbrev pub row-whole : Row
-row-whole = record { long = 64; code = e-ok; lines = line (wants 1 45) (told e-ok 8 []) (block 64 1 ∷ []) [] ∷ []; bytes = head 64 1 ++ body 56 }
+row-whole = record { made = defaults; long = 64; code = e-ok; lines = line (wants 1 45) (told e-ok 8 []) (block 64 1 ∷ []) [] ∷ []; bytes = head 64 1 ++ body 56 }
 
 -- a release joins the free blocks before and behind it; bytes 20 to 27 and 48 to 55 are zero
 abbrev pub row-join : Row
 row-join =
     record {
+      made = defaults;
       long = 64;
       code = e-ok;
       lines = to-c ++ (line (at 8) (told e-ok 0 []) (block 20 0 ∷ block 28 2 ∷ block 16 0 ∷ []) []
@@ -239,6 +252,7 @@ row-join =
 abbrev pub row-stuck : Row
 row-stuck =
     record {
+      made = defaults;
       long = 64;
       code = e-ok;
       lines = to-e ++ (line (wants 5 4) (told waiting 0 []) blocks-c (queue-e ++ (waitsFor 5 4 forever ∷ []))
@@ -251,6 +265,7 @@ row-stuck =
 abbrev pub row-refused : Row
 row-refused =
     record {
+      made = defaults;
       long = 64;
       code = e-ok;
       lines = to-e ++ (line (wants 33 4) (told e-id 0 []) blocks-c queue-e
@@ -271,6 +286,7 @@ wrong o r p = line (at o) (told-why r p) blocks-c []
 abbrev pub row-reasons : Row
 row-reasons =
     record {
+      made = defaults;
       long = 64;
       code = e-ok;
       lines = to-c ++ (wrong 0 out-of-range 0 ∷ wrong 7 out-of-range 0 ∷ wrong 64 out-of-range 0 ∷ wrong 18446744073709551615 out-of-range 0
@@ -288,6 +304,7 @@ abbrev pub row-reasons-least : Row
 row-reasons-least =
     let whole = block 12 1 ∷ [] in
     record {
+      made = defaults;
       long = 12;
       code = e-ok;
       lines = line (at 8) (told-why already-free 0) (block 12 0 ∷ []) []
@@ -300,5 +317,38 @@ row-reasons-least =
       bytes = head 12 0 ++ body 4;
     }
 
+-- with size kinds
+
+abbrev pub kinds : ℕ → Attributes
+kinds m = record { kinds = with-kinds; greatest = m }
+
+-- the greatest request is 20, so the kinds are 12 and 36: 1 is rounded to 12, 13 and 20 to 36, and 21 is refused
+abbrev pub row-kinds : Row
+row-kinds =
+    let two = block 20 1 ∷ block 44 2 ∷ [] in
+    let queue = waitsFor 3 20 forever ∷ waitsFor 4 12 forever ∷ [] in
+    record {
+      made = kinds 20;
+      long = 64;
+      code = e-ok;
+      lines = line (wants 1 21) (told e-par 0 []) (block 64 0 ∷ []) []
+          ∷ line (wants 1 1) (told e-ok 8 []) blocks-b []
+          ∷ line (wants 2 13) (told e-ok 28 []) two []
+          ∷ line (wants 3 20) (told waiting 0 []) two (waitsFor 3 20 forever ∷ [])
+          ∷ line (wants 4 12) (told waiting 0 []) two queue
+          ∷ line (at 8) (told e-ok 0 []) (block 20 0 ∷ block 44 2 ∷ []) queue
+          ∷ line (cancel 3) (told e-ok 0 (woke 3 e-rlwai 0 ∷ woke 4 e-ok 8 ∷ [])) (block 20 4 ∷ block 44 2 ∷ []) []
+          ∷ [];
+      bytes = head 20 4 ++ body 12 ++ head 44 2 ++ body 36;
+    }
+
+-- what create refuses: the pool keeps its bytes
+abbrev row-refused-of : Attributes → Row
+row-refused-of a = record { made = a; long = 40; code = e-par; lines = []; bytes = body 40 }
+
+-- the top kind of 37 is 84; a greatest request without kinds; an unknown choice
+abbrev pub rows-refused : List Row
+rows-refused = row-refused-of (kinds 0) ∷ row-refused-of (kinds 37) ∷ row-refused-of (record { kinds = 0; greatest = 1 }) ∷ row-refused-of (record { kinds = 2; greatest = 1 }) ∷ []
+
 abbrev pub table : List Row
-table = row-a ∷ row-b ∷ row-c ∷ row-e ∷ row-f ∷ row-g ∷ row-h ∷ row-i ∷ row-j ∷ row-k 64 56 ∷ row-k 12 4 ∷ row-l ∷ row-longest ∷ row-split ∷ row-whole ∷ row-join ∷ row-stuck ∷ row-refused ∷ row-reasons ∷ row-reasons-least ∷ []
+table = row-a ∷ row-b ∷ row-c ∷ row-e ∷ row-f ∷ row-g ∷ row-h ∷ row-i ∷ row-j ∷ row-k 64 56 ∷ row-k 12 4 ∷ row-l ∷ row-longest ∷ row-split ∷ row-whole ∷ row-join ∷ row-stuck ∷ row-refused ∷ row-reasons ∷ row-reasons-least ∷ row-kinds ∷ rows-refused

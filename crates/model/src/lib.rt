@@ -53,8 +53,26 @@ pub const FOREVER: u32 = 4294967295;
 
 pub const LONGEST_LEFT: u32 = 2147483648;
 
-// The waiting queue: its entries in order, zeros in the places past the last.
+// The choices of how a size asked is rounded: up to a multiple of 4, or to the size kinds of the pool.
+pub const WITHOUT_KINDS: u32 = 0;
+
+pub const WITH_KINDS: u32 = 1;
+
+// What create is told of a pool, and the queue keeps: the choice, and the greatest request of a pool with kinds (0 without).
+pub struct Attributes {
+    pub kinds: u32,
+    pub greatest: u32,
+}
+
+// Those of document 01's pool, all zeros.
+pub const DEFAULTS: Attributes = Attributes {
+    kinds: WITHOUT_KINDS,
+    greatest: 0,
+};
+
+// The waiting queue: what was chosen for the pool, and the entries in order, zeros in the places past the last.
 pub struct Queue {
+    pub attributes: Attributes,
     pub entries: [Entry; TASKS],
 }
 

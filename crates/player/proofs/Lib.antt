@@ -1,2 +1,4 @@
 pub mod Waking
 pub mod Stepping
+pub mod Playing
+pub mod Beginning

@@ -13,14 +13,14 @@ use Rattle.model.specs.declared.Entry.{Entry}
 use Rattle.model.specs.declared.Woken.{Woken}
 use Rattle.model.specs.Limits.{most-tasks, e-tmout}
 use Rattle.model.specs.Waiting.{waits, remove, expires, expired, remaining}
-use Rattle.model.specs.Rules.{Rules, base}
+use Rattle.model.specs.Rules.{Rules, rules}
 use Rattle.model.specs.Calls.{Call, get, release, cancel, tick, inquire, Refusal, entryOf, leave, Store, State, blocks, fitting, given, serve, goes, tests, act}
 use Rattle.model.specs.Pool.{Stored, view, isSound, rulesOf, perform}
 use Rattle.model.proofs.Tests.{by, clash}
 use Rattle.model.proofs.Places.{Live, queued-live}
 use Rattle.model.proofs.Soundness.{passed-cancel, open-sound}
 use Rattle.model.proofs.Pool.{open-stored, by-unsound, by-refused, by-done}
-use Rattle.model.proofs.Theorems.{base-woken-fit}
+use Rattle.model.proofs.Theorems.{pool-woken-fit}
 
 -- no woken task has the number 0
 unfoldable pub Named : List Woken → Type 0
@@ -77,17 +77,17 @@ module _ (K : Rules) {P : Type 0} (E : Store P) where
   act-named inquire s v e = tt
 
 -- in a sound state, by what its tests say
-sound-named : (c : Call) (p : Stored) → isSound base p ≡ true → (v : Option Refusal) → tests (rulesOf base p) (blocks (rulesOf base p)) c (view p) ≡ v → Named (perform base c p .said .woken)
+sound-named : (c : Call) (p : Stored) → isSound rules p ≡ true → (v : Option Refusal) → tests (rulesOf rules p) (blocks (rulesOf rules p)) c (view p) ≡ v → Named (perform rules c p .said .woken)
 unfolding Named view
-sound-named c p h (some k) e = rw (by-refused (rulesOf base p) c p k h e) tt
+sound-named c p h (some k) e = rw (by-refused (rulesOf rules p) c p k h e) tt
 sound-named c p h none e =
-    let K = rulesOf base p in
+    let K = rulesOf rules p in
     let o = open-sound K (blocks K) (view p) (open-stored K p h .0) in
     rw (by-done K c p h e) (act-named K (blocks K) c (view p) (queued-live K (view p .queue) (o .order)) e)
 
-pub perform-woken : (c : Call) (p : Stored) → Named (perform base c p .said .woken) × (length (perform base c p .said .woken) ≤ most-tasks)
+pub perform-woken : (c : Call) (p : Stored) → Named (perform rules c p .said .woken) × (length (perform rules c p .said .woken) ≤ most-tasks)
 unfolding Named
 perform-woken c p =
-    by (isSound base p)
-    (λ h. (sound-named c p h (tests (rulesOf base p) (blocks (rulesOf base p)) c (view p)) refl, base-woken-fit c p h))
-    (λ h. rw (by-unsound (rulesOf base p) c p h) (tt, omega arith))
+    by (isSound rules p)
+    (λ h. (sound-named c p h (tests (rulesOf rules p) (blocks (rulesOf rules p)) c (view p)) refl, pool-woken-fit c p h))
+    (λ h. rw (by-unsound (rulesOf rules p) c p h) (tt, omega arith))

@@ -4,7 +4,7 @@ use mathlib.Core.Path.{_≡_}
 use mathlib.Core.List.{List, []}
 use Rattle.model.specs.declared.Queue.{Queue}
 use Rattle.model.specs.Limits.{most-tasks}
-use Rattle.model.specs.Rules.{base}
+use Rattle.model.specs.Rules.{rules}
 use Rattle.model.specs.Calls.{Reply}
 use Rattle.model.specs.Pool.{Stored, stored, perform}
 use Rattle.numbers.specs.Wrote.{Wrote}
@@ -17,7 +17,7 @@ use Rattle.player.specs.declared.Progress.{Progress}
 
 -- the reply to the call of a record
 abbrev pub replyTo : Record → List ℕ → Queue → Reply Stored
-replyTo r l q = perform base (callOf r) (stored l q)
+replyTo r l q = perform rules (callOf r) (stored l q)
 
 -- the line behind the records, where no record stands at the place `at` of the log
 abbrev pub lastText : Read → (at count : ℕ) → List ℕ

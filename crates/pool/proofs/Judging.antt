@@ -10,6 +10,7 @@ use mir.Val.{ofZ, toZ}
 use lib.ListN.{length, getD}
 use lib.Dec.{eqb}
 use lib.IntN.{ℤ}
+use Rattle.model.specs.declared.Attributes.{Attributes}
 use Rattle.model.specs.declared.BlockOffset.{BlockOffset}
 use Rattle.model.specs.declared.Entry.{Entry}
 use Rattle.model.specs.declared.Queue.{Queue}
@@ -19,14 +20,14 @@ use Rattle.model.specs.Limits.{most-tasks, e-ok, e-id, e-par, e-ctx, e-tmout}
 use Rattle.model.specs.Blocks.{Block, fits, firstFit, granted}
 use Rattle.model.specs.Bytes.{blocksOf}
 use Rattle.model.specs.Waiting.{waits}
-use Rattle.model.specs.Rules.{Rules, okTask, okSize, needOf, base}
+use Rattle.model.specs.Rules.{Rules, okTask, mostAsked, okSize, needOf, rules}
 use Rattle.model.specs.Calls.{offsetOf, noPlace, Request, get, plain, deny, okLimit, isPoll, leftOf, entryOf, State, state, blocks, goes, tests, act}
 use Rattle.model.specs.Places.{noEntry, entriesOf, tidy, wokenOf}
 use Rattle.model.specs.Pool.{Stored, stored, view, performBy, rulesOf, isSound, result, answered, called}
 use Rattle.model.proofs.Tests.{by, and-l, and-f-r, not-f}
 use Rattle.model.proofs.Bytes.{Bytes}
 use Rattle.model.proofs.Soundness.{no-some, past}
-use Rattle.model.proofs.Base.{base-laws}
+use Rattle.model.proofs.Rules.{rules-laws}
 use Rattle.layout.specs.declared.Spot.{Spot}
 use Rattle.layout.specs.declared.Target.the-variants as target
 use Rattle.layout.specs.declared.Found.{Found}
@@ -39,34 +40,34 @@ use Rattle.queue.specs.Entries as Q
 use Rattle.queue.proofs.Entries.{head-blocks}
 use Rattle.pool.specs.declared.request.Verdict.{Verdict}
 use Rattle.pool.specs.declared.request.Verdict.the-variants.{Refuse, Go}
-use Rattle.pool.specs.Steps.{request, entry, refusal, asked, judged, placed, runFor, held, admitted, Fair}
+use Rattle.pool.specs.Steps.{rulesIn, request, entry, refusal, asked, judged, placed, runFor, held, admitted, Fair}
 use Rattle.pool.proofs.Inspecting.{State as Parts, open-state, called-refused, kept-bytes, kept-queue}
 
 -- ---- the tests but for the last
 
-module _ (n t s : ℕ) (l : ℤ) (q : List Entry) where
+module _ (a : Attributes) (n t s : ℕ) (l : ℤ) (q : List Entry) where
   abbrev verdictOf : Verdict
-  verdictOf = judged (asked (base n) (request t s l) q) l
+  verdictOf = judged (asked (rules a n) (request t s l) q) l
 
-  pub task-refused : okTask (base n) t ≡ false → Refuse e-id ≡ verdictOf
-  task-refused a = rw a
+  pub task-refused : okTask (rules a n) t ≡ false → Refuse e-id ≡ verdictOf
+  task-refused h = rw h
 
-  module _ (a : okTask (base n) t ≡ true) where
-    pub size-refused : okSize n s ≡ false → Refuse e-par ≡ verdictOf
-    unfolding base
-    size-refused b = rw (a, b)
+  module _ (h : okTask (rules a n) t ≡ true) where
+    pub size-refused : okSize (mostAsked a n) s ≡ false → Refuse e-par ≡ verdictOf
+    unfolding rules
+    size-refused b = rw (h, b)
 
-    module _ (b : okSize n s ≡ true) where
+    module _ (b : okSize (mostAsked a n) s ≡ true) where
       pub limit-refused : okLimit l ≡ false → Refuse e-par ≡ verdictOf
-      unfolding base
-      limit-refused d = rw (a, b, d)
+      unfolding rules
+      limit-refused d = rw (h, b, d)
 
       pub slot-judged : (x : Slot) (p : Bool) (left : ℕ) → okLimit l ≡ true → x ≡ Q.found t q → p ≡ isPoll l → left ≡ cond (isPoll l) 0 (leftOf l) → placed x p left ≡ verdictOf
-      unfolding base
+      unfolding rules
       slot-judged x p left d e ep el =
           by (waits t q)
-          (λ w. let f : x ≡ slot.At (Q.place t q) = e ∙ rw w in rw (f, a, b, d, w))
-          (λ w. let f : x ≡ slot.Nothing = e ∙ rw w in rw (f, a, b, d, w) (λ i. Go (ep i) (el i)))
+          (λ w. let f : x ≡ slot.At (Q.place t q) = e ∙ rw w in rw (f, h, b, d, w))
+          (λ w. let f : x ≡ slot.Nothing = e ∙ rw w in rw (f, h, b, d, w) (λ i. Go (ep i) (el i)))
 
 -- ---- tests of a get
 
@@ -119,8 +120,8 @@ judged-go none l p left e = record { passes = refl; poll = cc; time = cc }
 
 -- a poll never stands in the queue, so its time left does not matter
 poll-admitted : (s : Stored) (t n a b : ℕ) → admitted s (entry t n a) true ≡ admitted s (entry t n b) true
-unfolding base
-poll-admitted s t n a b = by (goes (rulesOf base s) (blocks (rulesOf base s)) (entry t n a) (view s)) (λ g. rw g) (λ g. rw g)
+unfolding rules
+poll-admitted s t n a b = by (goes (rulesOf rules s) (blocks (rulesOf rules s)) (entry t n a) (view s)) (λ g. rw g) (λ g. rw g)
 
 admitted-left : (s : Stored) (t n left : ℕ) (l : ℤ) → left ≡ cond (isPoll l) 0 (leftOf l) → admitted s (entry t n left) (isPoll l) ≡ admitted s (entry t n (leftOf l)) (isPoll l)
 admitted-left s t n left l e =
@@ -130,18 +131,18 @@ admitted-left s t n left l e =
 
 module _ (l : List ℕ) (q : Queue) (t n : ℕ) (limit : ℤ) where
   abbrev K : Rules
-  K = base (length l)
+  K = rulesIn l q
 
   abbrev r : Request
   r = request t n limit
 
-  pub get-refused : (k : ℤ) → isSound base (stored l q) ≡ true → judged (asked K r (entriesOf q)) limit ≡ Refuse k → result (refusal (plain (toZ w32 (ofZ w32 k))) q) l ≡ called (get r) l q
+  pub get-refused : (k : ℤ) → isSound rules (stored l q) ≡ true → judged (asked K r (entriesOf q)) limit ≡ Refuse k → result (refusal (plain (toZ w32 (ofZ w32 k))) q) l ≡ called (get r) l q
   unfolding view
   get-refused k h e =
       let s = judged-refuse (asked K r (entriesOf q)) limit k e in
       rw (code-kept K r (entriesOf q) k s) (called-refused (get r) l q (plain k) h (asked-some K r (view (stored l q)) k s))
 
-  pub get-admitted : (p : Bool) (left : ℕ) → isSound base (stored l q) ≡ true → judged (asked K r (entriesOf q)) limit ≡ Go p left
+  pub get-admitted : (p : Bool) (left : ℕ) → isSound rules (stored l q) ≡ true → judged (asked K r (entriesOf q)) limit ≡ Go p left
       → answered (admitted (stored l q) (entry t n left) p) ≡ called (get r) l q
   unfolding performBy act view
   get-admitted p left h e =
@@ -149,9 +150,9 @@ module _ (l : List ℕ) (q : Queue) (t n : ℕ) (limit : ℤ) where
       let poll = g .poll in
       rw (poll, admitted-left (stored l q) t n left limit (g .time), h, asked-none K r (view (stored l q)) (g .passes))
 
-  pub get-fair : (p : Bool) (left : ℕ) (f : Found) → isSound base (stored l q) ≡ true → judged (asked K r (entriesOf q)) limit ≡ Go p left
-      → f ≡ seek (sought (target.Run (needOf n))) 0 0 (blocksOf l) → Fair l q (entry t n left) f
-  unfolding base
+  pub get-fair : (p : Bool) (left : ℕ) (f : Found) → isSound rules (stored l q) ≡ true → judged (asked K r (entriesOf q)) limit ≡ Go p left
+      → f ≡ seek (sought (target.Run (needOf (q .attributes) n))) 0 0 (blocksOf l) → Fair l q (entry t n left) f
+  unfolding rules
   get-fair p left f h e run =
       let g = judged-go (asked K r (entriesOf q)) limit p left e .passes in
       let a = past (not (okTask K t)) e-id _ g in
@@ -168,28 +169,31 @@ module _ (l : List ℕ) (q : Queue) (t n : ℕ) (limit : ℤ) where
 -- ---- a request that no test refused
 
 module _ (l : List ℕ) (q : Queue) (e : Entry) (f : Found) (fair : Fair l q e f) where
-  abbrev base-K : Rules
-  base-K = base (length l)
+  abbrev S : Rules
+  S = rulesIn l q
 
-  parts : Parts l (q .entries)
-  parts = open-state l (q .entries) (fair .state)
+  abbrev need : ℕ
+  need = needOf (q .attributes) (e .size)
+
+  parts : Parts l q
+  parts = open-state l q (fair .state)
 
   pub fair-held : tidy (q .entries) ≡ true
   fair-held = parts .places
 
   -- nobody waits, and the run found
-  goes-is : goes base-K (blocks base-K) e (view (stored l q)) ≡ eqb (getD (q .entries) 0 noEntry .task) 0 && fits (needOf (e .size)) (blocksOf l)
-  unfolding view base
+  goes-is : goes S (blocks S) e (view (stored l q)) ≡ eqb (getD (q .entries) 0 noEntry .task) 0 && fits need (blocksOf l)
+  unfolding view rules
   goes-is = by (eqb (getD (q .entries) 0 noEntry .task) 0) (λ z. rw (head-blocks (q .entries) 0, z)) (λ z. rw (head-blocks (q .entries) 0, z))
 
-  none-goes : runFor (q .entries) f ≡ found.Nothing → goes base-K (blocks base-K) e (view (stored l q)) ≡ false
+  none-goes : runFor (q .entries) f ≡ found.Nothing → goes S (blocks S) e (view (stored l q)) ≡ false
   none-goes n =
       goes-is ∙ by (eqb (getD (q .entries) 0 noEntry .task) 0)
-      (λ z. let g : f ≡ found.Nothing = rw z at n in rw (z, no-run (needOf (e .size)) (blocksOf l) (sym (fair .run) ∙ g)))
+      (λ z. let g : f ≡ found.Nothing = rw z at n in rw (z, no-run need (blocksOf l) (sym (fair .run) ∙ g)))
       (λ z. rw z)
 
   pub admit-held : (a : Answer) (p : Bool) → length (q .entries) ≡ most-tasks → Bytes l → runFor (q .entries) f ≡ found.Nothing → a ≡ held q e p → result a l ≡ answered (admitted (stored l q) e p)
-  unfolding view base
+  unfolding view rules
   admit-held a p n w o ea =
       let g = none-goes o in
       by p
@@ -200,17 +204,17 @@ module _ (l : List ℕ) (q : Queue) (e : Entry) (f : Found) (fair : Fair l q e f
     ran : (eqb (getD (q .entries) 0 noEntry .task) 0 ≡ true) × (f ≡ found.At s)
     ran = by (eqb (getD (q .entries) 0 noEntry .task) 0) (λ z. (z, rw z at o)) (λ z. no-spot (rw z at o))
 
-    fit : (fits (needOf (e .size)) (blocksOf l) ≡ true) × (s .place .0 ≡ firstFit (needOf (e .size)) (blocksOf l))
-    fit = found-run (needOf (e .size)) (blocksOf l) s (sym (fair .run) ∙ ran .1)
+    fit : (fits need (blocksOf l) ≡ true) × (s .place .0 ≡ firstFit need (blocksOf l))
+    fit = found-run need (blocksOf l) s (sym (fair .run) ∙ ran .1)
 
-    pub admit-grantable : Grantable l (s .place) (needOf (e .size))
-    unfolding base
-    admit-grantable = record { pool = parts .pool; least = base-laws (length l) .need-least e (fair .size); run = fit .0; place-is = fit .1 }
+    pub admit-grantable : Grantable l (s .place) need
+    unfolding rules
+    admit-grantable = record { pool = parts .pool; least = rules-laws (q .attributes) (length l) .need-least e (fair .size); run = fit .0; place-is = fit .1 }
 
     pub admit-granted : (a : BlockOffset) (w : List Woken) (l′ : List ℕ) (p : Bool) → length (q .entries) ≡ most-tasks → a ≡ offsetOf (s .place) → w ≡ wokenOf []
-        → l′ ≡ changed (granted (needOf (e .size)) (e .task)) l → result (record { code = e-ok; offset = a; reason = 0; place = noPlace; woken = w; queue = q }) l′ ≡ answered (admitted (stored l q) e p)
-    unfolding view base
+        → l′ ≡ changed (granted need (e .task)) l → result (record { code = e-ok; offset = a; reason = 0; place = noPlace; woken = w; queue = q }) l′ ≡ answered (admitted (stored l q) e p)
+    unfolding view rules
     admit-granted a w l′ p n ea ew el =
-        let g : goes base-K (blocks base-K) e (view (stored l q)) ≡ true = goes-is ∙ rw (ran .0, fit .0) in
-        let place : a ≡ offsetOf (record { 0 = firstFit (needOf (e .size)) (blocksOf l) }) = ea ∙ ap {B = BlockOffset} (λ (i : ℕ). record { 0 = i + 8 }) (fit .1) in
+        let g : goes S (blocks S) e (view (stored l q)) ≡ true = goes-is ∙ rw (ran .0, fit .0) in
+        let place : a ≡ offsetOf (record { 0 = firstFit need (blocksOf l) }) = ea ∙ ap {B = BlockOffset} (λ (i : ℕ). record { 0 = i + 8 }) (fit .1) in
         rw (g, and-f-r p false refl) (λ i. result (record { code = e-ok; offset = place i; reason = 0; place = noPlace; woken = ew i; queue = sym (kept-queue l q n parts) i }) (el i))

@@ -8,6 +8,8 @@ use lib.ListN.{length, getD}
 use lib.Seq.{sets}
 use lib.Dec.{eqb}
 use lib.IntN.{ℤ}
+use Rattle.model.specs.declared.Attributes.{Attributes}
+use Rattle.model.specs.declared.BlockOffset.{BlockOffset}
 use Rattle.model.specs.declared.Entry.{Entry}
 use Rattle.model.specs.declared.Queue.{Queue}
 use Rattle.model.specs.declared.Woken.{Woken}
@@ -16,11 +18,11 @@ use Rattle.model.specs.Limits.{most-tasks, e-ok, waiting, e-id, e-par, e-ctx, e
 use Rattle.model.specs.Blocks.{Block, fits}
 use Rattle.model.specs.Bytes.{blocksOf, render}
 use Rattle.model.specs.Waiting.{waits, insert}
-use Rattle.model.specs.Rules.{Rules, okTask, queued, needOf, base}
-use Rattle.model.specs.Calls.{noOffset, noPlace, Request, Reply, Refusal, plain, Served, decide, deny, okLimit, isPoll, leftOf, entryOf, blocks, goes, grants, joins}
+use Rattle.model.specs.Rules.{Rules, okTask, queued, needOf, rules}
+use Rattle.model.specs.Calls.{noOffset, noPlace, Request, Reply, Refusal, plain, Served, decide, deny, okLimit, isPoll, leftOf, entryOf, blocks, goes, misplaced, grants, joins}
 use Rattle.model.specs.Runs.{refusing}
 use Rattle.model.specs.Places.{noEntry, used, tidy, entriesOf, queueOf, wokenOf}
-use Rattle.model.specs.Pool.{Stored, stored, view, settled, rulesOf, isSound, Result, result}
+use Rattle.model.specs.Pool.{Stored, stored, view, settled, defaults, rulesOf, isSound, Result, result}
 use Rattle.layout.specs.declared.Target.{Target}
 use Rattle.layout.specs.declared.Target.the-variants as target
 use Rattle.layout.specs.declared.Found.{Found}
@@ -41,9 +43,13 @@ entry t n l = record { task = t; size = n; left = l }
 
 -- ---- the state
 
+-- the rules of a state
+abbrev pub rulesIn : List ℕ → Queue → Rules
+rulesIn l q = rules (q .attributes) (length l)
+
 -- what the survey finds, where the state is sound
-abbrev pub inspected : Target → List ℕ → List Entry → Surveyed
-inspected t l es = cond (isSound base (stored l (record { entries = es }))) (surveyOf t l) refused
+abbrev pub inspected : Target → List ℕ → Queue → Surveyed
+inspected t l q = cond (isSound rules (stored l q)) (surveyOf t l) refused
 
 -- nobody woken, the queue kept
 abbrev pub refusal : Refusal → Queue → Answer
@@ -52,6 +58,10 @@ refusal x q = record { code = x .code; offset = noOffset; reason = x .reason; pl
 -- the refusal that an answer tells, if it is one
 abbrev pub refusedIn : Answer → Option Refusal
 refusedIn a = refusing (record { code = a .code; reason = a .reason; place = a .place })
+
+-- why an offset is not that of a live block; the attributes do not matter
+abbrev pub misplacedIn : BlockOffset → List ℕ → Option Refusal
+misplacedIn o l = misplaced (rules defaults (length l)) (blocks (rules defaults (length l))) o (blocksOf l)
 
 -- number and place of the reason, if there is one
 abbrev pub reasonOf : Option Refusal → Reason
@@ -83,33 +93,33 @@ runFor es f = cond (eqb (getD es 0 noEntry .task) 0) f found.Nothing
 abbrev pub held : Queue → Entry → Bool → Answer
 held q e poll =
     cond poll (refusal (plain e-tmout) q)
-    (record { code = waiting; offset = noOffset; reason = 0; place = noPlace; woken = wokenOf []; queue = queueOf (insert (λ x. 0) e (entriesOf q)) })
+    (record { code = waiting; offset = noOffset; reason = 0; place = noPlace; woken = wokenOf []; queue = queueOf (q .attributes) (insert (λ x. 0) e (entriesOf q)) })
 
 -- the reply to a request that no test but the last refuses
 abbrev pub admitted : Stored → Entry → Bool → Reply Stored
 admitted p e poll =
     decide p
-    (deny (poll && not (goes (rulesOf base p) (blocks (rulesOf base p)) e (view p))) (plain e-tmout) none)
-    (settled p (cond (goes (rulesOf base p) (blocks (rulesOf base p)) e (view p)) (grants (rulesOf base p) (blocks (rulesOf base p)) e (view p)) (joins (rulesOf base p) (blocks (rulesOf base p)) e (view p))))
+    (deny (poll && not (goes (rulesOf rules p) (blocks (rulesOf rules p)) e (view p))) (plain e-tmout) none)
+    (settled p (cond (goes (rulesOf rules p) (blocks (rulesOf rules p)) e (view p)) (grants (rulesOf rules p) (blocks (rulesOf rules p)) e (view p)) (joins (rulesOf rules p) (blocks (rulesOf rules p)) e (view p))))
 
 -- a sound state, an entry that may be asked for, and what the survey found for its need
 pub record Fair (l : List ℕ) (q : Queue) (e : Entry) (f : Found) : Type 0 where
-  pub state : isSound base (stored l q) ≡ true
-  pub task : okTask (base (length l)) (e .task) ≡ true
-  pub size : base (length l) .allowed e ≡ true
+  pub state : isSound rules (stored l q) ≡ true
+  pub task : okTask (rulesIn l q) (e .task) ≡ true
+  pub size : rulesIn l q .allowed e ≡ true
   pub away : waits (e .task) (entriesOf q) ≡ false
-  pub run : f ≡ seek (sought (target.Run (needOf (e .size)))) 0 0 (blocksOf l)
+  pub run : f ≡ seek (sought (target.Run (needOf (q .attributes) (e .size)))) 0 0 (blocksOf l)
 
 -- ---- serving
 
--- what was served, behind k tasks that were noted in w, and the bytes x with the headers written
-abbrev pub servedAs : List ℕ → List Woken → ℕ → Served (List Block) → Result
-servedAs x w k v = result (record { code = e-ok; offset = noOffset; reason = 0; place = noPlace; woken = sets w k (v .woken); queue = queueOf (v .state .queue) }) (render (v .state .pool) x)
+-- what was served, behind k tasks that were noted in w, and the bytes x with the headers written; a queue that keeps a
+abbrev pub servedAs : Attributes → List ℕ → List Woken → ℕ → Served (List Block) → Result
+servedAs a x w k v = result (record { code = e-ok; offset = noOffset; reason = 0; place = noPlace; woken = sets w k (v .woken); queue = queueOf a (v .state .queue) }) (render (v .state .pool) x)
 
 -- a sound pool and queue, room for all who may be woken, and no run longer than `most`
-pub record Ready (l : List ℕ) (es : List Entry) (k most : ℕ) : Type 0 where
+pub record Ready (a : Attributes) (l : List ℕ) (es : List Entry) (k most : ℕ) : Type 0 where
   pub pool : soundPool l ≡ true
-  pub queue : queued (base (length l)) (used es) ≡ true
+  pub queue : queued (rules a (length l)) (used es) ≡ true
   pub places : tidy es ≡ true
   pub room : k + length (used es) ≤ most-tasks
   pub longest : (need : ℕ) → most < need → fits need (blocksOf l) ≡ false

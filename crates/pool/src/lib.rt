@@ -5,14 +5,15 @@ use layout::change;
 use layout::header;
 use layout::walk;
 use model::Answer;
+use model::Attributes;
 use model::BlockOffset;
+use model::DEFAULTS;
 use model::E_ID;
 use model::E_OBJ;
 use model::E_PAR;
 use model::E_RLWAI;
 use model::E_SYS;
 use model::HeaderPlace;
-use model::LONGEST_POOL;
 use model::OUT_OF_RANGE;
 use model::Queue;
 use model::Totals;
@@ -28,39 +29,29 @@ mod request;
 mod serving;
 mod state;
 
-// One free run of all bytes, and an empty queue.
-pub fn create(pool: &mut [u8]) -> Answer
-    ensures { λ r. ⌜ result r (now (pool .exit)) ≡ created (now (pool .entry)) ⌝ }
+// One free run of all bytes, and an empty queue that keeps the attributes.
+pub fn create(pool: &mut [u8], attributes: Attributes) -> Answer
+    ensures { λ r. ⌜ result r (now (pool .exit)) ≡ created attributes (now (pool .entry)) ⌝ }
 {
     let n = pool.len();
-    let queue = Queue {
-        entries: queue::empty(),
-    };
-    if n % 4 != 0 {
-        return state::refuse(E_PAR, queue);
-    }
-    if n < 12 {
-        return state::refuse(E_PAR, queue);
-    }
-    if LONGEST_POOL < n {
-        return state::refuse(E_PAR, queue);
+    if !state::is_valid(attributes, n) {
+        return state::refuse(E_PAR, state::empty(DEFAULTS));
     }
     header::write_header(pool, HeaderPlace(0), n, 0);
-    state::refuse(0, queue)
+    state::refuse(0, state::empty(attributes))
 }
 
 // A block for a task: granted where nobody waits and a run fits, else the task waits, through `limit` ticks, forever (-1) or not at all (0).
 pub fn get(pool: &mut [u8], queue: Queue, task: u32, size: u32, limit: i32) -> Answer
     ensures { λ r. ⌜ result r (now (pool .exit)) ≡ called (calls.get (request task size limit)) (now (pool .entry)) queue ⌝ }
 {
-    let need = state::need(size);
-    let entries = queue.entries;
-    let seen = state::inspect(pool, entries, Target::Run(need));
+    let need = sizes::need(queue.attributes, size);
+    let seen = state::inspect(pool, queue, Target::Run(need));
     if !seen.sound {
         return state::refuse(E_SYS, queue);
     }
     let n = pool.len();
-    let verdict = request::judge(entries, n, task, size, limit);
+    let verdict = request::judge(queue, n, task, size, limit);
     let found = seen.found;
     match verdict {
         Verdict::Refuse(code) => state::refuse(code, queue),
@@ -80,7 +71,7 @@ pub fn release(pool: &mut [u8], queue: Queue, offset: BlockOffset) -> Answer
     ensures { λ r. ⌜ result r (now (pool .exit)) ≡ called (calls.release offset) (now (pool .entry)) queue ⌝ }
 {
     let entries = queue.entries;
-    let seen = state::inspect(pool, entries, Target::Holder(offset));
+    let seen = state::inspect(pool, queue, Target::Holder(offset));
     if !seen.sound {
         return state::refuse(E_SYS, queue);
     }
@@ -94,7 +85,7 @@ pub fn release(pool: &mut [u8], queue: Queue, offset: BlockOffset) -> Answer
     }
     let run = change::release_at(pool, spot);
     let most = walk::greater(run, seen.greatest + 8);
-    serving::serve(pool, entries, queue::nobody(), 0, most)
+    serving::serve(pool, queue.attributes, entries, queue::nobody(), 0, most)
 }
 
 // A waiting task leaves the queue, and the queue is served.
@@ -102,7 +93,7 @@ pub fn cancel(pool: &mut [u8], queue: Queue, task: u32) -> Answer
     ensures { λ r. ⌜ result r (now (pool .exit)) ≡ called (calls.cancel task) (now (pool .entry)) queue ⌝ }
 {
     let entries = queue.entries;
-    let seen = state::inspect(pool, entries, Target::Nothing);
+    let seen = state::inspect(pool, queue, Target::Nothing);
     if !seen.sound {
         return state::refuse(E_SYS, queue);
     }
@@ -121,6 +112,7 @@ pub fn cancel(pool: &mut [u8], queue: Queue, task: u32) -> Answer
     };
     serving::serve(
         pool,
+        queue.attributes,
         queue::remove(entries, place),
         woken,
         1,
@@ -133,14 +125,21 @@ pub fn tick(pool: &mut [u8], queue: Queue) -> Answer
     ensures { λ r. ⌜ result r (now (pool .exit)) ≡ called calls.tick (now (pool .entry)) queue ⌝ }
 {
     let entries = queue.entries;
-    let seen = state::inspect(pool, entries, Target::Nothing);
+    let seen = state::inspect(pool, queue, Target::Nothing);
     if !seen.sound {
         return state::refuse(E_SYS, queue);
     }
     let ticked = queue::tick(entries);
     let stay = ticked.entries;
     let woken = ticked.woken;
-    serving::serve(pool, stay, woken, ticked.count, seen.greatest + 8)
+    serving::serve(
+        pool,
+        queue.attributes,
+        stay,
+        woken,
+        ticked.count,
+        seen.greatest + 8,
+    )
 }
 
 // The sum of the free runs and the greatest, each less its header, and the head's task.
@@ -148,7 +147,7 @@ pub fn inquire(pool: &[u8], queue: Queue) -> Totals
     ensures { λ r. ⌜ r ≡ inquired (now (pool .entry)) queue ⌝ }
 {
     let entries = queue.entries;
-    let seen = state::inspect(pool, entries, Target::Nothing);
+    let seen = state::inspect(pool, queue, Target::Nothing);
     let head = entries[0];
     if !seen.sound {
         return Totals {

@@ -18,8 +18,8 @@ use queue::Limit;
 use queue::Slot;
 ghost use mathlib.Core.Path.{_≡_};
 ghost use mathlib.Core.Bool.{true};
-ghost use Rattle.model.specs.Rules.{base};
-ghost use Rattle.model.specs.Places.{used, tidy};
+ghost use Rattle.model.specs.Rules.{rules};
+ghost use Rattle.model.specs.Places.{entriesOf, tidy};
 ghost use Rattle.model.specs.Pool.{result, answered, stored};
 ghost use Rattle.pool.specs.Steps.{request, entry, asked, judged, placed, runFor, held, admitted, Fair};
 
@@ -40,15 +40,17 @@ fn place(slot: Slot, poll: bool, left: u32) -> Verdict
 }
 
 // The tests of a request in a sound state of `n` bytes, in order.
-pub fn judge(entries: [Entry; TASKS], n: usize, task: u32, size: u32, limit: i32) -> Verdict
-    ensures { λ r. ⌜ r ≡ judged (asked (base n) (request task size limit) (used entries)) limit ⌝ }
+pub fn judge(queue: Queue, n: usize, task: u32, size: u32, limit: i32) -> Verdict
+    ensures { λ r. ⌜ r ≡ judged (asked (rules (queue .attributes) n) (request task size limit) (entriesOf queue)) limit ⌝ }
 {
     if !queue::is_task(task) {
         return Verdict::Refuse(E_ID);
     }
-    if !queue::is_size(n, size) {
+    let most = sizes::most_asked(queue.attributes, n);
+    if !sizes::is_size(most, size) {
         return Verdict::Refuse(E_PAR);
     }
+    let entries = queue.entries;
     let slot = queue::find(entries, task);
     let wait = queue::wait_of(limit);
     match wait {
@@ -78,6 +80,7 @@ fn hold(queue: Queue, e: Entry, poll: bool) -> Answer
     if poll {
         return state::refuse(E_TMOUT, queue);
     }
+    let attributes = queue.attributes;
     let entries = queue.entries;
     Answer {
         code: WAITING,
@@ -86,6 +89,7 @@ fn hold(queue: Queue, e: Entry, poll: bool) -> Answer
         place: HeaderPlace(0),
         woken: queue::nobody(),
         queue: Queue {
+            attributes: attributes,
             entries: queue::join(entries, e),
         },
     }
@@ -118,7 +122,8 @@ pub fn admit(
         );
     };
     let at = spot.place;
-    change::grant_at(pool, at, state::need(size), task as usize);
+    let need = sizes::need(queue.attributes, size);
+    change::grant_at(pool, at, need, task as usize);
     Answer {
         code: 0,
         offset: header::offset_of(at),

@@ -1,10 +1,10 @@
 // Serving the queue from its head.
-use crate::state;
 use layout::Found;
 use layout::change;
 use layout::header;
 use layout::walk;
 use model::Answer;
+use model::Attributes;
 use model::BlockOffset;
 use model::Entry;
 use model::HeaderPlace;
@@ -15,7 +15,7 @@ ghost use mathlib.Core.Path.{_≡_};
 ghost use lib.ListN.{length};
 ghost use Rattle.model.specs.Places.{used};
 ghost use Rattle.model.specs.Bytes.{blocksOf, erase};
-ghost use Rattle.model.specs.Rules.{base};
+ghost use Rattle.model.specs.Rules.{rules};
 ghost use Rattle.model.specs.Calls as calls;
 ghost use Rattle.model.specs.Pool.{result};
 ghost use Rattle.pool.specs.Steps.{servedAs, Ready};
@@ -23,13 +23,14 @@ ghost use Rattle.pool.specs.Steps.{servedAs, Ready};
 // While there is a head and it fits, it is granted and noted as woken, behind the `before` tasks that were noted. No free run has more than `most` bytes.
 pub fn serve(
     pool: &mut [u8],
+    attributes: Attributes,
     entries: [Entry; TASKS],
     woken: [Woken; TASKS],
     before: usize,
     most: usize,
 ) -> Answer
-    requires { ⌜ Ready (now pool) entries before most ⌝ }
-    ensures { λ r. ⌜ result r (now (pool .exit)) ≡ servedAs (erase (blocksOf (now (pool .entry))) (now (pool .entry))) woken before (calls.serve (base (length (now (pool .entry)))) (calls.blocks (base (length (now (pool .entry))))) (blocksOf (now (pool .entry))) (used entries)) ⌝ }
+    requires { ⌜ Ready attributes (now pool) entries before most ⌝ }
+    ensures { λ r. ⌜ result r (now (pool .exit)) ≡ servedAs attributes (erase (blocksOf (now (pool .entry))) (now (pool .entry))) woken before (calls.serve (rules attributes (length (now (pool .entry)))) (calls.blocks (rules attributes (length (now (pool .entry))))) (blocksOf (now (pool .entry))) (used entries)) ⌝ }
 {
     let mut noted = woken;
     let mut i: usize = 0;
@@ -38,7 +39,7 @@ pub fn serve(
         if e.task == 0 {
             break;
         }
-        let need = state::need(e.size);
+        let need = sizes::need(attributes, e.size);
         if most < need {
             break;
         }
@@ -65,6 +66,9 @@ pub fn serve(
         reason: 0,
         place: HeaderPlace(0),
         woken: noted,
-        queue: Queue { entries: left },
+        queue: Queue {
+            attributes: attributes,
+            entries: left,
+        },
     }
 }

@@ -6,33 +6,53 @@ use layout::header;
 use layout::walk;
 use model::ALREADY_FREE;
 use model::Answer;
+use model::Attributes;
 use model::BlockOffset;
-use model::Entry;
 use model::HeaderPlace;
 use model::INSIDE_BLOCK;
+use model::LONGEST_POOL;
 use model::MISALIGNED;
 use model::OUT_OF_RANGE;
 use model::Queue;
-use model::TASKS;
 ghost use mathlib.Core.Path.{_≡_};
 ghost use mathlib.Core.Bool.{true};
-ghost use lib.ListN.{length};
+ghost use mathlib.Core.List.{[]};
 ghost use Rattle.model.specs.Bytes.{blocksOf};
-ghost use Rattle.model.specs.Rules.{needOf, base};
-ghost use Rattle.model.specs.Calls.{plain, blocks, misplaced};
+ghost use Rattle.model.specs.Rules.{rules};
+ghost use Rattle.model.specs.Calls.{plain};
+ghost use Rattle.model.specs.Places.{queueOf};
 ghost use Rattle.layout.specs.declared.Target.the-variants as target;
 ghost use Rattle.layout.specs.declared.Found.the-variants as found;
 ghost use Rattle.layout.specs.Layout.{soundPool, seek, sought};
-ghost use Rattle.pool.specs.Steps.{inspected, refusal, reasonOf};
+ghost use Rattle.pool.specs.Steps.{inspected, refusal, misplacedIn, reasonOf};
 
 // Why a release is refused, and the place of a header; 0 and 0 if it is not.
 pub struct Reason(pub u32, pub HeaderPlace);
 
-// The size of the block for a size asked.
-pub fn need(size: u32) -> usize
-    ensures { λ r. ⌜ r ≡ needOf size ⌝ }
+// Whether create takes a pool of `n` bytes with these attributes.
+pub fn is_valid(attributes: Attributes, n: usize) -> bool
+    ensures { λ r. ⌜ r ≡ rules attributes n .valid ⌝ }
 {
-    (size as usize + 3) / 4 * 4 + 8
+    if n % 4 != 0 {
+        return false;
+    }
+    if n < 12 {
+        return false;
+    }
+    if LONGEST_POOL < n {
+        return false;
+    }
+    sizes::is_valid(attributes, n)
+}
+
+// A queue without entries.
+pub fn empty(attributes: Attributes) -> Queue
+    ensures { λ r. ⌜ r ≡ queueOf attributes [] ⌝ }
+{
+    Queue {
+        attributes: attributes,
+        entries: queue::empty(),
+    }
 }
 
 // A code with a reason and a place, nobody woken, nothing changed.
@@ -59,7 +79,7 @@ pub fn refuse(code: i32, queue: Queue) -> Answer
 // Why an offset is not that of a live block, given the block that holds it: the first test that fails.
 pub fn reason_of(pool: &[u8], offset: BlockOffset, spot: Spot) -> Reason
     requires { ⌜ (soundPool (now pool) ≡ true) × (seek (sought (target.Holder offset)) 0 0 (blocksOf (now pool)) ≡ found.At spot) ⌝ }
-    ensures { λ r. ⌜ r ≡ reasonOf (misplaced (base (length (now (pool .entry)))) (blocks (base (length (now (pool .entry))))) offset (blocksOf (now (pool .entry)))) ⌝ }
+    ensures { λ r. ⌜ r ≡ reasonOf (misplacedIn offset (now (pool .entry))) ⌝ }
 {
     if offset.0 < 8 {
         return Reason(OUT_OF_RANGE, HeaderPlace(0));
@@ -80,21 +100,27 @@ pub fn reason_of(pool: &[u8], offset: BlockOffset, spot: Spot) -> Reason
 }
 
 // Tests the state and surveys the pool, in one pass over its headers; the head, if any, must fit no free run.
-pub fn inspect(pool: &[u8], entries: [Entry; TASKS], target: Target) -> Surveyed
-    ensures { λ r. ⌜ r ≡ inspected target (now (pool .entry)) entries ⌝ }
+pub fn inspect(pool: &[u8], queue: Queue, target: Target) -> Surveyed
+    ensures { λ r. ⌜ r ≡ inspected target (now (pool .entry)) queue ⌝ }
 {
     let seen = walk::survey(pool, target);
     if !seen.sound {
         return seen;
     }
-    if !queue::is_sound(entries, pool.len()) {
+    let n = pool.len();
+    let attributes = queue.attributes;
+    if !sizes::is_valid(attributes, n) {
+        return walk::unsound();
+    }
+    let entries = queue.entries;
+    if !queue::is_sound(attributes, entries, n) {
         return walk::unsound();
     }
     let head = entries[0];
     if head.task == 0 {
         return seen;
     }
-    if need(head.size) <= seen.greatest + 8 {
+    if sizes::need(attributes, head.size) <= seen.greatest + 8 {
         return walk::unsound();
     }
     seen

@@ -8,11 +8,12 @@ use native.Mathlib.Nat.{add-zero, zero-add}
 use lib.Dec.{leb, eqb}
 use lib.ListN.{length, drop, getD, set, replicate}
 use lib.Seq.{getD-set-same, getD-set-other}
-use borrow.Author.Tests.{leb-true, leb-false, eqb-true, eqb-false, le-leb, lt-leb, eq-eqb, ne-eqb}
+use borrow.Author.Tests.{leb-true, eqb-true, eqb-false, le-leb, eq-eqb, ne-eqb}
+use Rattle.model.specs.declared.Attributes.{Attributes}
 use Rattle.model.specs.declared.Entry.{Entry}
 use Rattle.model.specs.Limits.{most-tasks}
 use Rattle.model.specs.Waiting.{waits, remove, headTask, insert, blocked, leads, okLeft}
-use Rattle.model.specs.Rules.{okTask, okSize, okEntry, queued, base}
+use Rattle.model.specs.Rules.{okTask, mostAsked, okSize, okEntry, queued, rules}
 use Rattle.model.specs.Places.{noEntry, used, allUnused, tidy}
 use Rattle.model.proofs.Tests.{by, clash, and-l, and-r, and-f-r, and-true, and-assoc, and-swap}
 use Rattle.queue.specs.declared.Slot.{Slot}
@@ -22,24 +23,15 @@ use Rattle.queue.proofs.Places.{used-stop, used-go, tidy-stop, tidy-go,
 
 -- ---- a sound queue
 
-pub size-test : (n size : ℕ) → leb 1 size && leb (size + 8) n ≡ okSize n size
-size-test n size =
-    by (leb 1 size)
-    (λ h. let k = leb-true 1 size h in
-    rw h (by (leb (size + 8) n)
-    (λ g. let j = leb-true (size + 8) n g in g ∙ sym (le-leb size (n - 8) (omega arith)))
-    (λ g. let j = leb-false (size + 8) n g in g ∙ sym (lt-leb size (n - 8) (omega arith)))))
-    (λ h. rw h)
-
 leads-waits : (x : Entry) (q : List Entry) → leads rank x q ≡ not (waits (x .task) q)
 unfolding leads waits
 leads-waits x [] = refl
 leads-waits x (y ∷ q) = by (eqb (y .task) (x .task)) (λ h. rw h) (λ h. rw h (leads-waits x q))
 
 -- the number of a task that may stand in the queue
-pub entry-number : (n : ℕ) (e : Entry) → okEntry (base n) e ≡ true → e .task ≤ most-tasks
-unfolding base
-entry-number n e h = leb-true (e .task) most-tasks (and-r (leb 1 (e .task)) (leb (e .task) most-tasks) (and-l (okTask (base n) (e .task)) (okSize n (e .size) && okLeft (e .left)) h))
+pub entry-number : (a : Attributes) (n : ℕ) (e : Entry) → okEntry (rules a n) e ≡ true → e .task ≤ most-tasks
+unfolding rules
+entry-number a n e h = leb-true (e .task) most-tasks (and-r (leb 1 (e .task)) (leb (e .task) most-tasks) (and-l (okTask (rules a n) (e .task)) (okSize (mostAsked a n) (e .size) && okLeft (e .left)) h))
 
 -- none of the entries is of a task that is marked
 unfoldable pub unmarked : List Bool → List Entry → Bool
@@ -67,62 +59,62 @@ unmarked-set seen t h (e ∷ q) =
     (and-swap (not (getD seen (e .task) false)) (not (waits t q)) (unmarked seen q)))
 
 -- what is still to be tested of the places, given the tasks marked and whether the entries have ended
-abbrev pub testFrom : ℕ → List Bool → Bool → List Entry → Bool
-testFrom n seen true l = allUnused l
-testFrom n seen false l = soundQueue n l && unmarked seen (used l)
+abbrev pub testFrom : Attributes → ℕ → List Bool → Bool → List Entry → Bool
+testFrom a n seen true l = allUnused l
+testFrom a n seen false l = soundQueue a n l && unmarked seen (used l)
 
-pub test-starts : (n m : ℕ) (l : List Entry) → soundQueue n l ≡ testFrom n (replicate m false) false l
-test-starts n m l = rw (unmarked-none m (used l)) (sym (and-true (soundQueue n l)))
+pub test-starts : (a : Attributes) (n m : ℕ) (l : List Entry) → soundQueue a n l ≡ testFrom a n (replicate m false) false l
+test-starts a n m l = rw (unmarked-none m (used l)) (sym (and-true (soundQueue a n l)))
 
 -- the test at one place more
-module _ (n : ℕ) (l : List Entry) (i : ℕ) (seen : List Bool) where
+module _ (a : Attributes) (n : ℕ) (l : List Entry) (i : ℕ) (seen : List Bool) where
   abbrev x : Entry
   x = getD l i noEntry
 
   abbrev r : List Entry
   r = drop (i + 1) l
 
-  pub test-ended : (ended : Bool) → ended || eqb (x .task) 0 ≡ true → testFrom n seen ended (drop i l) ≡ allUnused (drop i l)
+  pub test-ended : (ended : Bool) → ended || eqb (x .task) 0 ≡ true → testFrom a n seen ended (drop i l) ≡ allUnused (drop i l)
   unfolding queued unmarked
   test-ended true h = refl
   test-ended false h = let z = eqb-true (x .task) 0 h in rw (used-stop l i z, tidy-stop l i z) (and-true (allUnused (drop i l)))
 
-  sound-split : (x .task ≡ 0 → ⊥) → soundQueue n (drop i l) ≡ okEntry (base n) x && (not (waits (x .task) (used r)) && soundQueue n r)
-  unfolding queued base
+  sound-split : (x .task ≡ 0 → ⊥) → soundQueue a n (drop i l) ≡ okEntry (rules a n) x && (not (waits (x .task) (used r)) && soundQueue a n r)
+  unfolding queued rules
   sound-split h =
       let free = not (waits (x .task) (used r)) in
-      let q = queued (base n) (used r) in
-      rw (used-go l i h, tidy-go l i h, leads-waits, and-assoc (okEntry (base n) x) (free && q) (tidy r), and-assoc free q (tidy r))
+      let q = queued (rules a n) (used r) in
+      rw (used-go l i h, tidy-go l i h, leads-waits, and-assoc (okEntry (rules a n) x) (free && q) (tidy r), and-assoc free q (tidy r))
 
-  pub test-bad : (ended : Bool) → ended || eqb (x .task) 0 ≡ false → okEntry (base n) x ≡ false → testFrom n seen ended (drop i l) ≡ false
+  pub test-bad : (ended : Bool) → ended || eqb (x .task) 0 ≡ false → okEntry (rules a n) x ≡ false → testFrom a n seen ended (drop i l) ≡ false
   test-bad true h b = clash true refl h
   test-bad false h b = rw (sound-split (eqb-false (x .task) 0 h), b)
 
-  pub test-twice : (ended : Bool) → ended || eqb (x .task) 0 ≡ false → getD seen (x .task) false ≡ true → testFrom n seen ended (drop i l) ≡ false
+  pub test-twice : (ended : Bool) → ended || eqb (x .task) 0 ≡ false → getD seen (x .task) false ≡ true → testFrom a n seen ended (drop i l) ≡ false
   unfolding unmarked
   test-twice true h m = clash true refl h
-  test-twice false h m = and-f-r (soundQueue n (drop i l)) _ (rw (used-go l i (eqb-false (x .task) 0 h), m))
+  test-twice false h m = and-f-r (soundQueue a n (drop i l)) _ (rw (used-go l i (eqb-false (x .task) 0 h), m))
 
-  pub test-go : (ended : Bool) → ended || eqb (x .task) 0 ≡ false → okEntry (base n) x ≡ true → getD seen (x .task) false ≡ false → x .task < length seen → testFrom n seen ended (drop i l) ≡ testFrom n (set seen (x .task) true) ended r
+  pub test-go : (ended : Bool) → ended || eqb (x .task) 0 ≡ false → okEntry (rules a n) x ≡ true → getD seen (x .task) false ≡ false → x .task < length seen → testFrom a n seen ended (drop i l) ≡ testFrom a n (set seen (x .task) true) ended r
   unfolding unmarked
   test-go true h ok m k = clash true refl h
   test-go false h ok m k =
       let u = eqb-false (x .task) 0 h in
       rw (sound-split u, used-go l i u, ok, m, unmarked-set seen (x .task) k (used r))
-      (and-assoc (not (waits (x .task) (used r))) (soundQueue n r) (unmarked seen (used r))
-      ∙ and-swap (not (waits (x .task) (used r))) (soundQueue n r) (unmarked seen (used r)))
+      (and-assoc (not (waits (x .task) (used r))) (soundQueue a n r) (unmarked seen (used r))
+      ∙ and-swap (not (waits (x .task) (used r))) (soundQueue a n r) (unmarked seen (used r)))
 
-  pub test-end : (ended : Bool) → length l ≡ most-tasks → most-tasks ≤ i → testFrom n seen ended (drop i l) ≡ true
+  pub test-end : (ended : Bool) → length l ≡ most-tasks → most-tasks ≤ i → testFrom a n seen ended (drop i l) ≡ true
   unfolding queued used tidy allUnused unmarked
   test-end true e h = rw (drop-end l i e h)
   test-end false e h = rw (drop-end l i e h)
 
-pub record Sound (n : ℕ) (es : List Entry) : Type 0 where
-  pub queue : queued (base n) (used es) ≡ true
+pub record Sound (a : Attributes) (n : ℕ) (es : List Entry) : Type 0 where
+  pub queue : queued (rules a n) (used es) ≡ true
   pub places : tidy es ≡ true
 
-pub open-sound : (n : ℕ) (es : List Entry) → soundQueue n es ≡ true → Sound n es
-open-sound n es h = record { queue = and-l (queued (base n) (used es)) (tidy es) h; places = and-r (queued (base n) (used es)) (tidy es) h }
+pub open-sound : (a : Attributes) (n : ℕ) (es : List Entry) → soundQueue a n es ≡ true → Sound a n es
+open-sound a n es h = record { queue = and-l (queued (rules a n) (used es)) (tidy es) h; places = and-r (queued (rules a n) (used es)) (tidy es) h }
 
 -- ---- who waits
 

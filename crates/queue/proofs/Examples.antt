@@ -7,8 +7,9 @@ use lib.IntN.{pos}
 use Rattle.model.specs.declared.Entry.{Entry}
 use Rattle.model.specs.Limits.{most-tasks, forever, minus}
 use Rattle.model.specs.Waiting.{leads}
-use Rattle.model.specs.Rules.{queued, base}
+use Rattle.model.specs.Rules.{queued, rules}
 use Rattle.model.specs.Places.{noEntry, pad, used, allUnused, tidy}
+use Rattle.model.specs.Pool.{defaults}
 use Rattle.queue.specs.declared.Limit.the-variants.{Refused, Poll, Wait}
 use Rattle.queue.specs.Entries.{soundQueue, limitOf}
 
@@ -20,11 +21,11 @@ entry t n l = record { task = t; size = n; left = l }
 
 -- the queue of a pool of 64 bytes
 abbrev sound64 : List Entry → Bool
-sound64 es = soundQueue 64 (pad noEntry most-tasks es)
+sound64 es = soundQueue defaults 64 (pad noEntry most-tasks es)
 
 -- the empty queue, and one with each bound
 pub sound-queues : map sound64 ([] ∷ (entry 1 1 1 ∷ entry 32 56 2147483648 ∷ entry 7 20 forever ∷ []) ∷ []) ≡ (true ∷ true ∷ [])
-unfolding leads queued base pad used allUnused tidy
+unfolding leads queued rules pad used allUnused tidy
 sound-queues = refl
 
 -- a task above 32, one that stands twice; a size of 0, one above N - 8; no time left, one too long; numbers in an unused place, an entry behind one
@@ -41,5 +42,5 @@ damaged =
     ∷ []
 
 pub damaged-queues : map sound64 damaged ≡ map (λ es. false) damaged
-unfolding leads queued base pad used allUnused tidy
+unfolding leads queued rules pad used allUnused tidy
 damaged-queues = refl

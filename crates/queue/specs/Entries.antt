@@ -10,16 +10,17 @@ use Rattle.queue.specs.declared.Slot.the-variants.{At, Nothing}
 use Rattle.queue.specs.declared.Ticked.{Ticked}
 use Rattle.queue.specs.declared.Limit.{Limit}
 use Rattle.queue.specs.declared.Limit.the-variants.{Refused, Poll, Wait}
+use Rattle.model.specs.declared.Attributes.{Attributes}
 use Rattle.model.specs.declared.Entry.{Entry}
 use Rattle.model.specs.Limits.{most-tasks, e-tmout}
 use Rattle.model.specs.Waiting.{waits, expired, remaining}
-use Rattle.model.specs.Rules.{queued, base}
+use Rattle.model.specs.Rules.{queued, rules}
 use Rattle.model.specs.Calls.{okLimit, isPoll, leftOf, leave}
 use Rattle.model.specs.Places.{noEntry, pad, used, tidy, wokenOf}
 
--- the places of a sound queue over a pool of n bytes
-abbrev pub soundQueue : ℕ → List Entry → Bool
-soundQueue n es = queued (base n) (used es) && tidy es
+-- the places of a sound queue over a pool of n bytes with the attributes a
+abbrev pub soundQueue : Attributes → ℕ → List Entry → Bool
+soundQueue a n es = queued (rules a n) (used es) && tidy es
 
 -- ---- who waits
 

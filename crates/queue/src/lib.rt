@@ -4,11 +4,13 @@ ghost use mathlib.Core.Bool.{true};
 ghost use mathlib.Core.List.{[], _++_};
 ghost use Prim.Native.Nat.{ℕ, _+_, _-_, _≤_, _<_};
 ghost use lib.ListN.{length, take, drop};
+ghost use Rattle.model.specs.declared.Attributes.{Attributes};
 ghost use Rattle.model.specs.Limits.{most-tasks};
 ghost use Rattle.model.specs.Waiting.{okLeft, aged, insert};
-ghost use Rattle.model.specs.Rules.{okTask, okSize, okEntry, base};
+ghost use Rattle.model.specs.Rules.{okTask, mostAsked, okEntry, rules};
 ghost use Rattle.model.specs.Places.{noEntry, pad, used, isUnused, tidy, wokenOf};
 ghost use Rattle.queue.specs.Entries.{soundQueue, found, rank, without, tickedOf, limitOf};
+use model::Attributes;
 use model::BlockOffset;
 use model::E_TMOUT;
 use model::Entry;
@@ -53,16 +55,9 @@ pub fn nobody() -> [Woken; TASKS]
 
 // Whether this is the number of a task.
 pub fn is_task(task: u32) -> bool
-    ensures { λ r. ⌜ ((n : ℕ) → r ≡ okTask (base n) task) ⌝ }
+    ensures { λ r. ⌜ ((a : Attributes) (n : ℕ) → r ≡ okTask (rules a n) task) ⌝ }
 {
     (1 <= task) & (task <= LAST_TASK)
-}
-
-// Whether this size may be asked of a pool of `n` bytes.
-pub fn is_size(n: usize, size: u32) -> bool
-    ensures { λ r. ⌜ r ≡ okSize n size ⌝ }
-{
-    (1 <= size) & (size as usize + 8 <= n)
 }
 
 // Whether this time left may stand in an entry.
@@ -72,11 +67,11 @@ fn is_left(left: u32) -> bool
     (1 <= left) & ((left <= LONGEST_LEFT) | (left == FOREVER))
 }
 
-// Whether this entry may stand in the queue of a pool of `n` bytes.
-fn is_entry(n: usize, e: Entry) -> bool
-    ensures { λ r. ⌜ r ≡ okEntry (base n) e ⌝ }
+// Whether this entry may stand in the queue of a pool whose greatest request is `most`.
+fn is_entry(most: usize, e: Entry) -> bool
+    ensures { λ r. ⌜ ((a : Attributes) (n : ℕ) → most ≡ mostAsked a n → r ≡ okEntry (rules a n) e) ⌝ }
 {
-    is_task(e.task) & (is_size(n, e.size) & is_left(e.left))
+    is_task(e.task) & (sizes::is_size(most, e.size) & is_left(e.left))
 }
 
 // Whether this place is all zeros.
@@ -89,10 +84,12 @@ fn is_unused(e: Entry) -> bool
 // A place for each task's number, and for 0.
 const NUMBERS: usize = TASKS + 1;
 
-// Whether the queue is sound over a pool of `n` bytes. `seen` marks the tasks of the entries passed; once these have ended, only unused places follow.
-pub fn is_sound(entries: [Entry; TASKS], n: usize) -> bool
-    ensures { λ r. ⌜ r ≡ soundQueue n entries ⌝ }
+// Whether the entries are sound in a pool of `n` bytes with these attributes. `seen` marks the tasks of the entries passed; once these have ended,
+// only unused places follow.
+pub fn is_sound(attributes: Attributes, entries: [Entry; TASKS], n: usize) -> bool
+    ensures { λ r. ⌜ r ≡ soundQueue attributes n entries ⌝ }
 {
+    let most = sizes::most_asked(attributes, n);
     let mut seen = [false; NUMBERS];
     let mut ended = false;
     for i in 0..TASKS {
@@ -103,7 +100,7 @@ pub fn is_sound(entries: [Entry; TASKS], n: usize) -> bool
             }
             ended = true;
         } else {
-            if !is_entry(n, e) {
+            if !is_entry(most, e) {
                 return false;
             }
             let task = e.task as usize;

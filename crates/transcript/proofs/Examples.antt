@@ -6,10 +6,10 @@ use lib.IntN.{negsuc}
 use Rattle.model.specs.Blocks.{total, tiled, fits, firstFit, carve, granted, startsAt, join, freed, sumFree, greatestFree}
 use Rattle.model.specs.Bytes.{blocksFrom, le32, header, overlay, written, mask, render, erase}
 use Rattle.model.specs.Waiting.{waits, remove, headTask, insert, blocked, leads, expired, remaining}
-use Rattle.model.specs.Rules.{queued, base}
+use Rattle.model.specs.Rules.{queued, rules}
 use Rattle.model.specs.Calls.{leave, serve, headStuck, sound, tests, act}
 use Rattle.model.specs.Places.{pad, used, allUnused, tidy}
-use Rattle.model.specs.Pool.{view, soundBy, performBy, create}
+use Rattle.model.specs.Pool.{defaults, view, soundBy, performBy, create}
 use Rattle.numbers.specs.Number.{decode}
 use Rattle.log.specs.Fields.{readFields}
 use Rattle.log.specs.Record.{limitOf, recordOf}
@@ -81,25 +81,25 @@ no-record-text =
     (112 ∷ 111 ∷ 111 ∷ 108 ∷ 32 ∷ 49 ∷ 50 ∷ 10 ∷ [])
     ++ (101 ∷ 110 ∷ 100 ∷ 32 ∷ 48 ∷ 32 ∷ 114 ∷ 101 ∷ 99 ∷ 111 ∷ 114 ∷ 100 ∷ 115 ∷ 10 ∷ [])
 
-computed : (transcriptOf log ≡ log-text) × (transcriptOf ticks ≡ ticks-text) × (transcriptOf bad ≡ bad-text) × (transcriptOf no-record ≡ no-record-text)
-unfolding total tiled fits firstFit carve granted startsAt join freed sumFree greatestFree blocksFrom le32 header overlay written mask render erase waits remove headTask insert blocked leads expired remaining queued base leave serve headStuck sound tests act pad used allUnused tidy view soundBy performBy create decode readFields limitOf recordOf digits wokenText answerText recordsText poolText transcriptOf
+computed : (transcriptOf defaults log ≡ log-text) × (transcriptOf defaults ticks ≡ ticks-text) × (transcriptOf defaults bad ≡ bad-text) × (transcriptOf defaults no-record ≡ no-record-text)
+unfolding total tiled fits firstFit carve granted startsAt join freed sumFree greatestFree blocksFrom le32 header overlay written mask render erase waits remove headTask insert blocked leads expired remaining queued rules leave serve headStuck sound tests act pad used allUnused tidy view soundBy performBy create decode readFields limitOf recordOf digits wokenText answerText recordsText poolText transcriptOf
 computed = (refl, refl, refl, refl)
 
 -- an empty log
-empty : transcriptOf [] ≡ 98 ∷ 97 ∷ 100 ∷ 32 ∷ 108 ∷ 111 ∷ 103 ∷ 32 ∷ 97 ∷ 116 ∷ 32 ∷ 48 ∷ 10 ∷ []
+empty : transcriptOf defaults [] ≡ 98 ∷ 97 ∷ 100 ∷ 32 ∷ 108 ∷ 111 ∷ 103 ∷ 32 ∷ 97 ∷ 116 ∷ 32 ∷ 48 ∷ 10 ∷ []
 unfolding decode digits poolText transcriptOf
 empty = refl
 
 -- a length that is not in its shortest form
-not-shortest : transcriptOf (0x80 ∷ 0x00 ∷ 0x05 ∷ []) ≡ 98 ∷ 97 ∷ 100 ∷ 32 ∷ 108 ∷ 111 ∷ 103 ∷ 32 ∷ 97 ∷ 116 ∷ 32 ∷ 48 ∷ 10 ∷ []
+not-shortest : transcriptOf defaults (0x80 ∷ 0x00 ∷ 0x05 ∷ []) ≡ 98 ∷ 97 ∷ 100 ∷ 32 ∷ 108 ∷ 111 ∷ 103 ∷ 32 ∷ 97 ∷ 116 ∷ 32 ∷ 48 ∷ 10 ∷ []
 unfolding decode digits poolText transcriptOf
 not-shortest = refl
 
 -- lengths that are not allowed: 14 and 2^32 - 1
-refused : transcriptOf (0x0E ∷ 0x05 ∷ []) ≡ 112 ∷ 111 ∷ 111 ∷ 108 ∷ 32 ∷ 114 ∷ 101 ∷ 102 ∷ 117 ∷ 115 ∷ 101 ∷ 100 ∷ 32 ∷ 45 ∷ 49 ∷ 55 ∷ 10 ∷ []
-unfolding base decode poolText transcriptOf
+refused : transcriptOf defaults (0x0E ∷ 0x05 ∷ []) ≡ 112 ∷ 111 ∷ 111 ∷ 108 ∷ 32 ∷ 114 ∷ 101 ∷ 102 ∷ 117 ∷ 115 ∷ 101 ∷ 100 ∷ 32 ∷ 45 ∷ 49 ∷ 55 ∷ 10 ∷ []
+unfolding rules decode poolText transcriptOf
 refused = refl
 
-refused-greatest : transcriptOf (0xFF ∷ 0xFF ∷ 0xFF ∷ 0xFF ∷ 0x0F ∷ 0x05 ∷ []) ≡ 112 ∷ 111 ∷ 111 ∷ 108 ∷ 32 ∷ 114 ∷ 101 ∷ 102 ∷ 117 ∷ 115 ∷ 101 ∷ 100 ∷ 32 ∷ 45 ∷ 49 ∷ 55 ∷ 10 ∷ []
-unfolding base decode poolText transcriptOf
+refused-greatest : transcriptOf defaults (0xFF ∷ 0xFF ∷ 0xFF ∷ 0xFF ∷ 0x0F ∷ 0x05 ∷ []) ≡ 112 ∷ 111 ∷ 111 ∷ 108 ∷ 32 ∷ 114 ∷ 101 ∷ 102 ∷ 117 ∷ 115 ∷ 101 ∷ 100 ∷ 32 ∷ 45 ∷ 49 ∷ 55 ∷ 10 ∷ []
+unfolding rules decode poolText transcriptOf
 refused-greatest = refl

@@ -12,7 +12,8 @@ use lib.ListN.{length, drop, getD, length-append, length-replicate}
 use lib.Seq.{drop-append-seam}
 use borrow.Author.Tests.{le-leb, lt-leb}
 use Rattle.model.specs.Limits.{e-ok, e-par}
-use Rattle.model.specs.Rules.{base}
+use Rattle.model.specs.declared.Attributes.{Attributes}
+use Rattle.model.specs.Rules.{rules}
 use Rattle.model.specs.Runs.{run}
 use Rattle.model.specs.Pool.{Stored, perform, create}
 use Rattle.model.proofs.Tests.{by}
@@ -143,18 +144,18 @@ module _ (at count : ℕ) (p : Stored) where
 
   pub records-taken : (s : List ℕ) (r : Record) (n : ℕ) → recordOf s ≡ Taken r n
       → recordsText 0 at count p s
-      ≡ answerText (perform base (callOf r) p .said) ++ recordsText 0 (at + n) (count + 1) (perform base (callOf r) p .state) (drop n s)
+      ≡ answerText (perform rules (callOf r) p .said) ++ recordsText 0 (at + n) (count + 1) (perform rules (callOf r) p .state) (drop n s)
   unfolding recordsText
   records-taken [] r n e = absurd (omega (arith, record-length [] r n e))
   records-taken (b ∷ s) r zero e = absurd (omega (arith, record-length (b ∷ s) r 0 e))
   records-taken (b ∷ s) r (suc n) e =
       let m : suc n - 1 ≡ n = omega arith in
       let q : at + 1 + (suc n - 1) ≡ at + suc n = omega arith in
-      rw (e, recordsText, records-skip (suc n - 1) (at + 1) (count + 1) (perform base (callOf r) p .state) s, q, m)
+      rw (e, recordsText, records-skip (suc n - 1) (at + 1) (count + 1) (perform rules (callOf r) p .state) s, q, m)
 
 -- records that were written: the text of the run of their calls
 pub records-run : (rs : List Record) (at count : ℕ) (p : Stored) → AllExpressible rs
-    → recordsText 0 at count p (encodeRecords rs) ≡ turnsText (run (perform base) p (callsOf rs)) ++ endLine (count + length rs)
+    → recordsText 0 at count p (encodeRecords rs) ≡ turnsText (run (perform rules) p (callsOf rs)) ++ endLine (count + length rs)
 unfolding recordsText encodeRecords turnsText run callsOf AllExpressible
 records-run [] at count p h = rw (add-zero count)
 records-run (r ∷ rs) at count p h =
@@ -162,44 +163,44 @@ records-run (r ∷ rs) at count p h =
     rw (
       records-taken at count p (encodeRecord r ++ encodeRecords rs) r (length (encodeRecord r)) (record-encode r (encodeRecords rs) (h .0)),
       drop-append-seam (encodeRecord r) (encodeRecords rs),
-      records-run rs (at + length (encodeRecord r)) (count + 1) (perform base (callOf r) p .state) (h .1),
+      records-run rs (at + length (encodeRecord r)) (count + 1) (perform rules (callOf r) p .state) (h .1),
       q,
       append-assoc,
     )
 
 -- ---- the text of a log
 
--- create refuses a pool of zeros exactly where its length is not valid
-pub freshPool-code : (n : ℕ) → freshPool n .said .code ≡ cond (base n .valid) e-ok e-par
+-- create refuses a pool of zeros exactly where its length or its attributes are not valid
+pub freshPool-code : (a : Attributes) (n : ℕ) → freshPool a n .said .code ≡ cond (rules a n .valid) e-ok e-par
 unfolding create
-freshPool-code n = by (base n .valid) (λ v. rw (length-replicate, v)) (λ v. rw (length-replicate, v))
+freshPool-code a n = by (rules a n .valid) (λ v. rw (length-replicate, v)) (λ v. rw (length-replicate, v))
 
-module _ (log : List ℕ) where
-  pub transcript-too-long : longestLog < length log → transcriptOf log ≡ tooLongLine
+module _ (a : Attributes) (log : List ℕ) where
+  pub transcript-too-long : longestLog < length log → transcriptOf a log ≡ tooLongLine
   unfolding transcriptOf
   transcript-too-long h = rw (lt-leb (length log) longestLog h, transcriptOf)
 
   module _ (fits : length log ≤ longestLog) where
-    text : transcriptOf log ≡ poolText (numberOf log) log
+    text : transcriptOf a log ≡ poolText a (numberOf log) log
     unfolding transcriptOf
     text = rw (le-leb (length log) longestLog fits, transcriptOf)
 
-    pub transcript-bad : numberOf log ≡ Refused → transcriptOf log ≡ badLine 0
+    pub transcript-bad : numberOf log ≡ Refused → transcriptOf a log ≡ badLine 0
     unfolding poolText
     transcript-bad e = text ∙ rw e
 
     module _ (n size : ℕ) (e : numberOf log ≡ Value n size) where
-      pub transcript-refused : base n .valid ≡ false → transcriptOf log ≡ refusedLine
+      pub transcript-refused : rules a n .valid ≡ false → transcriptOf a log ≡ refusedLine
       unfolding poolText
       transcript-refused v = text ∙ rw (e, v, poolText)
 
-      pub transcript-pool : base n .valid ≡ true → transcriptOf log ≡ poolLine n ++ recordsText 0 size 0 (freshPool n .state) (drop size log)
+      pub transcript-pool : rules a n .valid ≡ true → transcriptOf a log ≡ poolLine n ++ recordsText 0 size 0 (freshPool a n .state) (drop size log)
       unfolding poolText
-      transcript-pool v = text ∙ rw (e, v, poolText, records-skip size 0 0 (freshPool n .state) log, zero-add size)
+      transcript-pool v = text ∙ rw (e, v, poolText, records-skip size 0 0 (freshPool a n .state) log, zero-add size)
 
 -- a log that was written: the text of the run of its calls
-pub transcript-run : (n : ℕ) (rs : List Record) → length (logOf n rs) ≤ longestLog → n < numberBound → base n .valid ≡ true → AllExpressible rs
-    → transcriptOf (logOf n rs) ≡ poolLine n ++ (turnsText (run (perform base) (freshPool n .state) (callsOf rs)) ++ endLine (length rs))
-transcript-run n rs fits small v h =
-    transcript-pool (logOf n rs) fits n (length (encode n)) (number-encode n (encodeRecords rs) small) v
-    ∙ rw (drop-append-seam (encode n) (encodeRecords rs), records-run rs (length (encode n)) 0 (freshPool n .state) h, zero-add (length rs))
+pub transcript-run : (a : Attributes) (n : ℕ) (rs : List Record) → length (logOf n rs) ≤ longestLog → n < numberBound → rules a n .valid ≡ true → AllExpressible rs
+    → transcriptOf a (logOf n rs) ≡ poolLine n ++ (turnsText (run (perform rules) (freshPool a n .state) (callsOf rs)) ++ endLine (length rs))
+transcript-run a n rs fits small v h =
+    transcript-pool a (logOf n rs) fits n (length (encode n)) (number-encode n (encodeRecords rs) small) v
+    ∙ rw (drop-append-seam (encode n) (encodeRecords rs), records-run rs (length (encode n)) 0 (freshPool a n .state) h, zero-add (length rs))

@@ -1,11 +1,12 @@
--- The whole text of a log: what a program writes that makes the calls of the log on a pool of zeros.
+-- The whole text of a log: what a program writes that makes the calls of the log on a pool of zeros with given attributes.
 use Prim.Native.Nat.{ℕ, zero, suc, _+_, _-_}
 use mathlib.Core.List.{List, [], _∷_, _++_}
 use mathlib.Core.Bool.{true, false}
 use lib.Dec.{leb}
 use lib.ListN.{length, replicate}
+use Rattle.model.specs.declared.Attributes.{Attributes}
 use Rattle.model.specs.declared.Woken.{Woken}
-use Rattle.model.specs.Rules.{base}
+use Rattle.model.specs.Rules.{rules}
 use Rattle.model.specs.Calls.{Call, get, poll, release, cancel, tick, Said, Reply}
 use Rattle.model.specs.Runs.{Turn}
 use Rattle.model.specs.Pool.{Stored, perform, create}
@@ -46,28 +47,28 @@ recordsText (suc n) at count p (b ∷ s) = recordsText n (at + 1) count p s
 recordsText zero at count p (b ∷ s) =
     elim (recordOf (b ∷ s)) [
       | Taken r n ↦
-          answerText (perform base (callOf r) p .said)
-          ++ recordsText (n - 1) (at + 1) (count + 1) (perform base (callOf r) p .state) s
+          answerText (perform rules (callOf r) p .said)
+          ++ recordsText (n - 1) (at + 1) (count + 1) (perform rules (callOf r) p .state) s
       | End ↦ endLine count
       | Bad ↦ badLine at
     ]
 
 -- the pool that is created of n zeros
-abbrev pub freshPool : ℕ → Reply Stored
-freshPool n = create base (replicate n 0)
+abbrev pub freshPool : Attributes → ℕ → Reply Stored
+freshPool a n = create rules a (replicate n 0)
 
--- the text after the pool's length has been read. Create refuses where that length is not valid.
-unfoldable pub poolText : Number → List ℕ → List ℕ
-poolText Refused log = badLine 0
-poolText (Value n size) log =
-    elim (base n .valid) [
-      | true ↦ poolLine n ++ recordsText size 0 0 (freshPool n .state) log
+-- the text after the pool's length has been read. Create refuses where the length or the attributes are not valid.
+unfoldable pub poolText : Attributes → Number → List ℕ → List ℕ
+poolText a Refused log = badLine 0
+poolText a (Value n size) log =
+    elim (rules a n .valid) [
+      | true ↦ poolLine n ++ recordsText size 0 0 (freshPool a n .state) log
       | false ↦ refusedLine
     ]
 
 -- the text that is written for a log
-unfoldable pub transcriptOf : List ℕ → List ℕ
-transcriptOf log = elim (leb (length log) longestLog) [ true ↦ poolText (numberOf log) log | false ↦ tooLongLine ]
+unfoldable pub transcriptOf : Attributes → List ℕ → List ℕ
+transcriptOf a log = elim (leb (length log) longestLog) [ true ↦ poolText a (numberOf log) log | false ↦ tooLongLine ]
 
 -- ---- runs
 

@@ -1,14 +1,45 @@
 //! Shared by several test files; each uses a part of it.
 #![allow(dead_code)]
 
+use second::attributes::Attributes;
 use second::deal::deal;
 use second::dealer::Dealer;
+use second::kinds_case::read_case;
+use second::kinds_deal::{any_pool, deal_case};
 use second::pool::{Answer, Pool, Woken, FOREVER};
 use second::rng::Rng;
 
+/// A log and the attributes of its pool.
+pub type PoolLog = (Attributes, Vec<u8>);
+
+/// Deals a pool and queue in a random state, by seed and number.
+pub type State = fn(u64, u64) -> Dealer;
+
+/// States of pools without kinds, and of pools with kinds.
+pub const STATES: [State; 2] = [random_state, random_kinds_state];
+
 /// A pool of `len` bytes, an allowed length.
 pub fn create(len: u32) -> Pool {
-    Pool::create(len).expect("the length is allowed")
+    Pool::create(len, Attributes::default()).expect("the length is allowed")
+}
+
+/// A pool with kinds, of a length and an M that are allowed.
+pub fn create_with_kinds(len: u32, greatest: u32) -> Pool {
+    let attributes = Attributes::with_kinds(greatest);
+    Pool::create(len, attributes).expect("length and M are allowed")
+}
+
+/// Bytes that an allowed request takes. All pools with kinds use the kinds from
+/// 12 on, each twice the one before and 12.
+pub fn need(attributes: Attributes, size: u32) -> u32 {
+    if attributes.kinds == 0 {
+        return size.div_ceil(4) * 4 + 8;
+    }
+    let mut kind = 12;
+    while kind < size {
+        kind = 2 * kind + 12;
+    }
+    kind + 8
 }
 
 /// The pool of the specification after its example b.
@@ -82,7 +113,7 @@ pub fn woke(list: &[(u32, i32, u32)]) -> Answer {
     }
 }
 
-/// A dealer whose pool and queue are in a random state.
+/// A dealer whose pool, without kinds, and queue are in a random state.
 pub fn random_state(seed: u64, index: u64) -> Dealer {
     let mut rng = Rng::new(seed, index);
     let len = match rng.below(3) {
@@ -96,9 +127,17 @@ pub fn random_state(seed: u64, index: u64) -> Dealer {
     dealer
 }
 
+/// The same on a pool with kinds.
+pub fn random_kinds_state(seed: u64, index: u64) -> Dealer {
+    let mut dealer = any_pool(Rng::new(seed, index));
+    let count = dealer.rng.below(60);
+    dealer.put_many(count);
+    dealer
+}
+
 /// A log with many ticks among records of every kind.
-fn log_with_ticks(index: u64) -> Vec<u8> {
-    let mut dealer = random_state(31, index);
+fn log_with_ticks(state: State, index: u64) -> PoolLog {
+    let mut dealer = state(31, index);
     for _ in 0..80 {
         if dealer.rng.chance(30) {
             dealer.tick();
@@ -106,15 +145,23 @@ fn log_with_ticks(index: u64) -> Vec<u8> {
             dealer.put_any();
         }
     }
-    dealer.log
+    (dealer.pool.attributes(), dealer.log)
 }
 
-/// Logs with many ticks, on pools of 12 to 2,400 bytes.
-pub fn logs_with_ticks() -> impl Iterator<Item = Vec<u8>> {
-    (0..1_500).map(log_with_ticks)
+/// Logs with many ticks.
+pub fn logs_with_ticks(state: State) -> impl Iterator<Item = PoolLog> {
+    (0..1_500).map(move |index| log_with_ticks(state, index))
 }
 
-/// Dealt logs of every shape.
-pub fn dealt_logs() -> impl Iterator<Item = Vec<u8>> {
-    (0..300).map(|index| deal(32, index))
+/// Dealt logs of every shape, on pools without kinds.
+pub fn dealt_logs() -> impl Iterator<Item = PoolLog> {
+    (0..300).map(|index| (Attributes::default(), deal(32, index)))
+}
+
+/// The logs of dealt cases of every shape.
+pub fn dealt_case_logs() -> impl Iterator<Item = PoolLog> {
+    (0..300).filter_map(|index| {
+        let case = deal_case(32, index);
+        read_case(&case).map(|(attributes, log)| (attributes, log.to_vec()))
+    })
 }

@@ -10,8 +10,7 @@ use borrow.Author.Needs.{needs}
 use Rattle.model.specs.Calls as calls
 use Rattle.model.specs.declared.Woken.{Woken}
 use Rattle.model.specs.Limits.{most-tasks, e-rlwai}
-use Rattle.model.specs.Rules.{okTask, base}
-use Rattle.model.specs.Waiting.{remove}
+use Rattle.model.specs.Rules.{okTask}
 use Rattle.model.specs.Places.{noEntry, pad, entriesOf}
 use Rattle.model.specs.Pool.{result}
 use Rattle.model.specs.declared.Queue.{Queue}
@@ -19,6 +18,7 @@ use Rattle.layout.specs.declared.Target.the-variants as target
 use Rattle.layout.specs.declared.Surveyed.{Surveyed}
 use Rattle.queue.specs.declared.Slot.the-variants as slot
 use Rattle.queue.proofs.Entries.{Found, found-nothing, found-at}
+use Rattle.pool.specs.Steps.{rulesIn}
 use Rattle.pool.proofs.Inspecting.{Told, told, told-small, unsound, called-unsound}
 use Rattle.pool.proofs.Changing.{cancel-unknown, cancel-idle, cancel-ready, cancel-done}
 use Rattle.pool.proofs.cancel.Statement.{statement}
@@ -38,11 +38,11 @@ task s = s .before .before .before .before .before .before .args .task
 abbrev seen : tie.Else1 → Surveyed
 seen s = s .before .before .inspect .result
 
-surveyed : (s : tie.Else1) → Told target.Nothing (bytes s) (queue s .entries) (seen s)
-surveyed s = told target.Nothing (bytes s) (queue s .entries) (seen s) (s .before .before .inspect .ensures) (not-false _ (s .if1 .left))
+surveyed : (s : tie.Else1) → Told target.Nothing (bytes s) (queue s) (seen s)
+surveyed s = told target.Nothing (bytes s) (queue s) (seen s) (s .before .before .inspect .ensures) (not-false _ (s .if1 .left))
 
-known : (c : tie.Else2) → okTask (base (length (bytes (c .before .before)))) (task (c .before .before)) ≡ true
-known c = sym (c .before .is-task .ensures (length (bytes (c .before .before)))) ∙ not-false _ (c .if2 .left)
+known : (c : tie.Else2) → okTask (rulesIn (bytes (c .before .before)) (queue (c .before .before))) (task (c .before .before)) ≡ true
+known c = sym (c .before .is-task .ensures (queue (c .before .before) .attributes) (length (bytes (c .before .before)))) ∙ not-false _ (c .if2 .left)
 
 slotted : (c : tie.After-find) (i : ℕ) → c .find .result ≡ slot.At i → Found (task (c .before .before .before)) i (entriesOf (queue (c .before .before .before)))
 slotted c i e = found-at (task (c .before .before .before)) (entriesOf (queue (c .before .before .before))) i (sym e ∙ c .find .ensures)
@@ -53,12 +53,12 @@ returns : tie.Need-returns
 returns c =
     let i = c .before .before .before in
     let a = i .before .before .before .before .args in
-    rw (c .refuse .ensures) (called-unsound (calls.cancel (a .task)) (a .pool .now) (a .queue) (unsound target.Nothing (a .pool .now) (a .queue .entries) (i .inspect .result) (i .inspect .ensures) (not-true _ (c .before .if1 .taken))))
+    rw (c .refuse .ensures) (called-unsound (calls.cancel (a .task)) (a .pool .now) (a .queue) (unsound target.Nothing (a .pool .now) (a .queue) (i .inspect .result) (i .inspect .ensures) (not-true _ (c .before .if1 .taken))))
 
 returns-2 : tie.Need-returns-2
 returns-2 c =
     let s = c .before .before .before in
-    rw (c .refuse2 .ensures) (cancel-unknown (bytes s) (queue s) (seen s) (surveyed s) (task s) (sym (c .before .before .is-task .ensures (length (bytes s))) ∙ not-true _ (c .before .if2 .taken)))
+    rw (c .refuse2 .ensures) (cancel-unknown (bytes s) (queue s) (seen s) (surveyed s) (task s) (sym (c .before .before .is-task .ensures (queue s .attributes) (length (bytes s))) ∙ not-true _ (c .before .if2 .taken)))
 
 returns-3 : tie.Need-returns-3
 returns-3 c =
@@ -71,7 +71,7 @@ remove-requires : tie.Need-remove-requires
 remove-requires c κs = let p = c .before .before .before .slot .given in (surveyed (c .before .before .before .before .before .before .before .before) .parts .places, slotted (c .before .before .before .before .before) (p .0 .0) (p .1) .within)
 
 add-serve : tie.Need-add-serve
-add-serve c = let s = c .before .before .before .before .before .before .before .before .before .before in omega (arith, told-small target.Nothing (bytes s) (queue s .entries) (seen s) (surveyed s))
+add-serve c = let s = c .before .before .before .before .before .before .before .before .before .before in omega (arith, told-small target.Nothing (bytes s) (queue s) (seen s) (surveyed s))
 
 serve-requires : tie.Need-serve-requires
 serve-requires c κs =

@@ -1,31 +1,39 @@
 -- `pool::create` meets its contract. Assumes nothing.
-use mathlib.Core.Path.{_≡_, ap}
-use mathlib.Core.List.{[]}
+use mathlib.Core.Path.{_≡_, sym, _∙_}
+use mathlib.Core.Bool.{true}
+use native.Mathlib.Omega.{arith}
+use lib.ListN.{length}
+use borrow.Author.Tests.{not-true, not-false}
 use borrow.Author.Needs.{needs}
-use Rattle.model.specs.declared.Queue.{Queue}
-use Rattle.model.specs.Places.{queueOf}
-use Rattle.model.specs.Pool.{result}
-use Rattle.pool.proofs.Changing.{create-uneven, create-short, create-long, create-done}
+use Rattle.model.specs.Rules.{rules}
+use Rattle.model.proofs.Rules.{rules-laws, rules-long}
+use Rattle.pool.proofs.Changing.{create-refused, create-done}
 use Rattle.pool.proofs.create.Statement.{statement}
 use Rattle.pool.proofs.create.Tie as tie
 
-nobody : (c : tie.After-empty) → record { entries = c .empty .result } ≡ queueOf []
-nobody c = ap {B = Queue} (λ l. record { entries = l }) (c .empty .ensures)
+taken : (c : tie.Else1) → let a = c .before .before .before .args in rules (a .attributes) (length (a .pool .now)) .valid ≡ true
+taken c = sym (c .before .is-valid .ensures) ∙ not-false _ (c .if1 .left)
 
 returns : tie.Need-returns
-returns c = rw (c .refuse .ensures) (create-uneven (c .before .before .before .before .args .pool .now) _ (nobody (c .before .before)) (c .before .if1 .taken))
+returns c =
+    let v = c .before .before in
+    let a = v .before .before .before .args in
+    rw (c .refuse .ensures)
+    (create-refused (a .attributes) (a .pool .now) _ (c .before .empty .ensures) (sym (v .before .is-valid .ensures) ∙ not-true _ (v .if1 .taken)))
+
+write-header-requires : tie.Need-write-header-requires
+write-header-requires c κs =
+    let a = c .before .before .before .before .args in
+    let n = length (a .pool .now) in
+    omega (arith, rules-laws (a .attributes) n .long-least (taken (c .before)), rules-long (a .attributes) n)
 
 returns-2 : tie.Need-returns-2
 returns-2 c =
-    rw (c .refuse2 .ensures) (create-short (c .before .before .before .before .before .args .pool .now) _ (nobody (c .before .before .before)) (c .before .before .if1 .left) (c .before .if2 .taken))
-
-returns-3 : tie.Need-returns-3
-returns-3 c =
-    rw (c .refuse3 .ensures) (create-long (c .before .before .before .before .before .before .args .pool .now) _ (nobody (c .before .before .before .before)) (c .before .before .before .if1 .left) (c .before .before .if2 .left) (c .before .if3 .taken))
-
-returns-4 : tie.Need-returns-4
-returns-4 c =
-    rw (c .refuse4 .ensures) (create-done (c .before .before .before .before .before .before .before .before .before .before .args .pool .now) _ (nobody (c .before .before .before .before .before .before .before .before)) (c .before .before .before .before .before .before .before .if1 .left) (c .before .before .before .before .before .before .if2 .left) (c .before .before .before .before .before .if3 .left) (c .before .before .before .write-header .last .0) (c .before .before .before .write-header .ensures))
+    let h = c .before .before .before .before .write-header in
+    let v = c .before .before .before .before .before .before in
+    let a = v .before .before .before .args in
+    rw (c .refuse2 .ensures)
+    (create-done (a .attributes) (a .pool .now) _ (c .before .empty2 .ensures) (taken v) (h .last .0) (h .ensures))
 
 pub create-spec : {M : Type 1} → statement M
 create-spec =
@@ -33,12 +41,10 @@ create-spec =
     (tie.spec
     (λ c κs. search needs)
     (λ c κs. search needs)
+    (λ c κs. search needs)
     returns
-    (λ c κs. search needs)
-    returns-2
-    (λ c κs. search needs)
-    returns-3
+    write-header-requires
     (λ c κs. search needs)
     (λ c κs. search needs)
     (λ c. search needs)
-    returns-4)
+    returns-2)

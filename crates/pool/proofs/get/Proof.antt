@@ -5,17 +5,16 @@ use mathlib.Core.List.{List}
 use mir.Syntax.{w32}
 use mir.ValLaws.{toZ-ofZ}
 use lib.IntN.{ℤ}
-use lib.ListN.{length}
 use borrow.Author.Tests.{not-true, not-false}
 use borrow.Author.Needs.{needs}
-use Rattle.model.specs.Rules.{needOf, base}
+use Rattle.model.specs.Rules.{needOf}
 use Rattle.model.specs.Places.{entriesOf}
 use Rattle.model.specs.Calls as calls
 use Rattle.model.specs.declared.Queue.{Queue}
 use Rattle.model.specs.Calls.{Request}
 use Rattle.layout.specs.declared.Target.the-variants as target
 use Rattle.layout.specs.declared.Surveyed.{Surveyed}
-use Rattle.pool.specs.Steps.{request, asked, judged, inspected}
+use Rattle.pool.specs.Steps.{rulesIn, request, asked, judged, inspected}
 use Rattle.pool.proofs.Inspecting.{Told, told, unsound, called-unsound}
 use Rattle.pool.proofs.Judging.{get-refused, get-admitted, get-fair}
 use Rattle.pool.proofs.get.Statement.{statement}
@@ -24,32 +23,32 @@ use Rattle.pool.proofs.get.Tie as tie
 -- ---- once the state is known to be sound
 
 abbrev bytes : tie.Else1 → List ℕ
-bytes s = s .before .before .before .before .before .before .before .args .pool .now
+bytes s = s .before .before .before .before .before .before .args .pool .now
 
 abbrev queue : tie.Else1 → Queue
-queue s = s .before .before .before .before .before .before .before .args .queue
+queue s = s .before .before .before .before .before .before .args .queue
 
 abbrev asks : tie.Else1 → Request
-asks s = let a = s .before .before .before .before .before .before .before .args in request (a .task) (a .size) (a .limit)
+asks s = let a = s .before .before .before .before .before .before .args in request (a .task) (a .size) (a .limit)
 
 abbrev seen : tie.Else1 → Surveyed
 seen s = s .before .before .inspect .result
 
-surveyed : (s : tie.Else1) → Told (target.Run (needOf (asks s .size))) (bytes s) (queue s .entries) (seen s)
+surveyed : (s : tie.Else1) → Told (target.Run (needOf (queue s .attributes) (asks s .size))) (bytes s) (queue s) (seen s)
 surveyed s =
-    told (target.Run (needOf (asks s .size))) (bytes s) (queue s .entries) (seen s)
-    (s .before .before .inspect .ensures ∙ ap (λ (i : ℕ). inspected (target.Run i) (bytes s) (queue s .entries)) (s .before .before .before .before .before .need .ensures)) (not-false _ (s .if1 .left))
+    told (target.Run (needOf (queue s .attributes) (asks s .size))) (bytes s) (queue s) (seen s)
+    (s .before .before .inspect .ensures ∙ ap (λ (i : ℕ). inspected (target.Run i) (bytes s) (queue s)) (s .before .before .before .before .need .ensures)) (not-false _ (s .if1 .left))
 
-verdict-is : (c : tie.After-judge) → let s = c .before in judged (asked (base (length (bytes s))) (asks s) (entriesOf (queue s))) (asks s .limit) ≡ c .judge .result
+verdict-is : (c : tie.After-judge) → let s = c .before in judged (asked (rulesIn (bytes s) (queue s)) (asks s) (entriesOf (queue s))) (asks s .limit) ≡ c .judge .result
 verdict-is c =
     let s = c .before in
-    sym (c .judge .ensures ∙ ap (λ (z : ℤ). judged (asked (base (length (bytes s))) (request (asks s .task) (asks s .size) z) (entriesOf (queue s))) z) (toZ-ofZ w32 (asks s .limit) (c .before .before .before .before .before .before .before .before .fits .limit)))
+    sym (c .judge .ensures ∙ ap (λ (z : ℤ). judged (asked (rulesIn (bytes s) (queue s)) (request (asks s .task) (asks s .size) z) (entriesOf (queue s))) z) (toZ-ofZ w32 (asks s .limit) (c .before .before .before .before .before .before .before .fits .limit)))
 
 returns : tie.Need-returns
 returns c =
     let i = c .before .before .before in
-    let a = i .before .before .before .before .before .args in
-    rw (c .refuse .ensures) (called-unsound (calls.get (request (a .task) (a .size) (a .limit))) (a .pool .now) (a .queue) (unsound (target.Run (i .before .before .before .need .result)) (a .pool .now) (a .queue .entries) (i .inspect .result) (i .inspect .ensures) (not-true _ (c .before .if1 .taken))))
+    let a = i .before .before .before .before .args in
+    rw (c .refuse .ensures) (called-unsound (calls.get (request (a .task) (a .size) (a .limit))) (a .pool .now) (a .queue) (unsound (target.Run (i .before .before .need .result)) (a .pool .now) (a .queue) (i .inspect .result) (i .inspect .ensures) (not-true _ (c .before .if1 .taken))))
 
 admit-requires : tie.Need-admit-requires
 admit-requires c κs =

@@ -10,12 +10,12 @@ use Rattle.pool.proofs.inquire.Tie as tie
 returns : tie.Need-returns
 returns c =
     let a = c .before .before .before .before .before .before .args in
-    inquire-unsound (a .pool .now) (a .queue) (unsound target.Nothing (a .pool .now) (a .queue .entries) (c .before .before .before .inspect .result) (c .before .before .before .inspect .ensures) (not-true _ (c .if1 .taken)))
+    inquire-unsound (a .pool .now) (a .queue) (unsound target.Nothing (a .pool .now) (a .queue) (c .before .before .before .inspect .result) (c .before .before .before .inspect .ensures) (not-true _ (c .if1 .taken)))
 
 returns-2 : tie.Need-returns-2
 returns-2 c =
     let a = c .before .before .before .before .before .before .args in
-    inquire-done (a .pool .now) (a .queue) (c .before .before .before .inspect .result) (told target.Nothing (a .pool .now) (a .queue .entries) (c .before .before .before .inspect .result) (c .before .before .before .inspect .ensures) (not-false _ (c .if1 .left)))
+    inquire-done (a .pool .now) (a .queue) (c .before .before .before .inspect .result) (told target.Nothing (a .pool .now) (a .queue) (c .before .before .before .inspect .result) (c .before .before .before .inspect .ensures) (not-false _ (c .if1 .left)))
 
 pub inquire-spec : {M : Type 1} → statement M
 inquire-spec =

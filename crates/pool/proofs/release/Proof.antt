@@ -2,14 +2,11 @@
 use Prim.Native.Nat.{ℕ}
 use mathlib.Core.Path.{_≡_, sym, _∙_}
 use mathlib.Core.List.{List}
-use mathlib.Core.Option.{Option, none}
+use mathlib.Core.Option.{none}
 use native.Mathlib.Omega.{arith}
-use lib.ListN.{length}
 use borrow.Author.Tests.{not-true, not-false}
 use borrow.Author.Needs.{needs}
-use Rattle.model.specs.Bytes.{blocksOf}
 use Rattle.model.specs.Limits.{out-of-range}
-use Rattle.model.specs.Rules.{base}
 use Rattle.model.specs.Calls as calls
 use Rattle.model.specs.Pool.{result}
 use Rattle.model.specs.declared.Queue.{Queue}
@@ -18,6 +15,7 @@ use Rattle.layout.specs.declared.Spot.{Spot}
 use Rattle.layout.specs.declared.Target.the-variants as target
 use Rattle.layout.specs.declared.Found.the-variants as found
 use Rattle.layout.specs.declared.Surveyed.{Surveyed}
+use Rattle.pool.specs.Steps.{misplacedIn}
 use Rattle.pool.proofs.Inspecting.{Told, told, told-small, unsound, called-unsound}
 use Rattle.pool.proofs.Changing.{reason-nowhere, reason-told, reason-none, release-refused, releasable, release-ready, release-done}
 use Rattle.pool.proofs.release.Statement.{statement}
@@ -37,11 +35,8 @@ offset s = s .before .before .before .before .before .before .args .offset
 abbrev seen : tie.Else1 → Surveyed
 seen s = s .before .before .inspect .result
 
-abbrev wrong : tie.Else1 → Option calls.Refusal
-wrong s = calls.misplaced (base (length (bytes s))) (calls.blocks (base (length (bytes s)))) (offset s) (blocksOf (bytes s))
-
-surveyed : (s : tie.Else1) → Told (target.Holder (offset s)) (bytes s) (queue s .entries) (seen s)
-surveyed s = told (target.Holder (offset s)) (bytes s) (queue s .entries) (seen s) (s .before .before .inspect .ensures) (not-false _ (s .if1 .left))
+surveyed : (s : tie.Else1) → Told (target.Holder (offset s)) (bytes s) (queue s) (seen s)
+surveyed s = told (target.Holder (offset s)) (bytes s) (queue s) (seen s) (s .before .before .inspect .ensures) (not-false _ (s .if1 .left))
 
 -- ---- the refusals
 
@@ -49,7 +44,7 @@ returns : tie.Need-returns
 returns c =
     let i = c .before .before .before in
     let a = i .before .before .before .before .args in
-    rw (c .refuse .ensures) (called-unsound (calls.release (a .offset)) (a .pool .now) (a .queue) (unsound (target.Holder (a .offset)) (a .pool .now) (a .queue .entries) (i .inspect .result) (i .inspect .ensures) (not-true _ (c .before .if1 .taken))))
+    rw (c .refuse .ensures) (called-unsound (calls.release (a .offset)) (a .pool .now) (a .queue) (unsound (target.Holder (a .offset)) (a .pool .now) (a .queue) (i .inspect .result) (i .inspect .ensures) (not-true _ (c .before .if1 .taken))))
 
 returns-2 : tie.Need-returns-2
 returns-2 c =
@@ -76,7 +71,7 @@ abbrev spot : tie.Else2 → Spot
 spot d = d .before .before .before .before .before .found .given .0 .0
 
 -- the offset is that of the live block at the spot
-right : (d : tie.Else2) → wrong (sound d) ≡ none
+right : (d : tie.Else2) → misplacedIn (offset (sound d)) (bytes (sound d)) ≡ none
 right d = let why = d .before .before .reason-of in reason-none (bytes (sound d)) (offset (sound d)) (surveyed (sound d) .parts .pool) (why .result) (why .ensures) (d .if2 .left)
 
 at : (d : tie.Else2) → seen (sound d) .found ≡ found.At (spot d)
@@ -89,7 +84,7 @@ release-at-requires c κs =
     releasable (bytes s) (queue s) (offset s) (seen s) (surveyed s) (spot d) (right d) (at d)
 
 add-greater : tie.Need-add-greater
-add-greater c = let s = sound (c .before .before .before .before .before) in omega (arith, told-small (target.Holder (offset s)) (bytes s) (queue s .entries) (seen s) (surveyed s))
+add-greater c = let s = sound (c .before .before .before .before .before) in omega (arith, told-small (target.Holder (offset s)) (bytes s) (queue s) (seen s) (surveyed s))
 
 serve-requires : tie.Need-serve-requires
 serve-requires c κs =

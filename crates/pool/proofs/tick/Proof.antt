@@ -26,17 +26,17 @@ queue s = s .before .before .before .before .before .before .args .queue
 abbrev seen : tie.Else1 → Surveyed
 seen s = s .before .before .inspect .result
 
-surveyed : (s : tie.Else1) → Told target.Nothing (bytes s) (queue s .entries) (seen s)
-surveyed s = told target.Nothing (bytes s) (queue s .entries) (seen s) (s .before .before .inspect .ensures) (not-false _ (s .if1 .left))
+surveyed : (s : tie.Else1) → Told target.Nothing (bytes s) (queue s) (seen s)
+surveyed s = told target.Nothing (bytes s) (queue s) (seen s) (s .before .before .inspect .ensures) (not-false _ (s .if1 .left))
 
 returns : tie.Need-returns
 returns c =
     let i = c .before .before .before in
     let a = i .before .before .before .before .args in
-    rw (c .refuse .ensures) (called-unsound calls.tick (a .pool .now) (a .queue) (unsound target.Nothing (a .pool .now) (a .queue .entries) (i .inspect .result) (i .inspect .ensures) (not-true _ (c .before .if1 .taken))))
+    rw (c .refuse .ensures) (called-unsound calls.tick (a .pool .now) (a .queue) (unsound target.Nothing (a .pool .now) (a .queue) (i .inspect .result) (i .inspect .ensures) (not-true _ (c .before .if1 .taken))))
 
 add-serve : tie.Need-add-serve
-add-serve c = let s = c .before .before .before .before .before in omega (arith, told-small target.Nothing (bytes s) (queue s .entries) (seen s) (surveyed s))
+add-serve c = let s = c .before .before .before .before .before in omega (arith, told-small target.Nothing (bytes s) (queue s) (seen s) (surveyed s))
 
 serve-requires : tie.Need-serve-requires
 serve-requires c κs =

@@ -7,7 +7,9 @@ use native.Mathlib.Omega.{arith}
 use lib.ListN.{length, drop, getD, length-set}
 use borrow.Author.Needs.{needs}
 use borrow.Author.Tests.{not-true, not-false}
+use Rattle.model.specs.declared.Attributes.{Attributes}
 use Rattle.model.specs.Limits.{most-tasks}
+use Rattle.model.specs.Rules.{mostAsked, okEntry, rules}
 use Rattle.model.specs.Places.{noEntry}
 use Rattle.queue.specs.Entries.{soundQueue}
 use Rattle.queue.proofs.Places.{unused-stop, unused-go}
@@ -15,63 +17,78 @@ use Rattle.queue.proofs.Entries.{entry-number, testFrom, test-starts, t
 use Rattle.queue.proofs.is_sound.Statement.{statement}
 use Rattle.queue.proofs.is_sound.Tie as tie
 
+-- the loop knows of the attributes only the greatest request
 abbrev Inv-loop : tie.InvT-loop
-Inv-loop n entries seen₀ ended₀ i₀ seen ended i = (soundQueue n entries ≡ testFrom n seen ended (drop i entries)) × (length seen ≡ suc most-tasks)
+Inv-loop n entries most seen₀ ended₀ i₀ seen ended i =
+    ((a : Attributes) → most ≡ mostAsked a n → soundQueue a n entries ≡ testFrom a n seen ended (drop i entries)) × (length seen ≡ suc most-tasks)
 
 abbrev μ-loop : tie.MeasureT-loop
-μ-loop n entries seen₀ ended₀ i₀ seen ended i = most-tasks - i
+μ-loop n entries most seen₀ ended₀ i₀ seen ended i = most-tasks - i
 
 returns : tie.Need-returns Inv-loop μ-loop
 returns c =
     let b = c .before .before in
-    let a = b .before .before .before .before in
-    let x = a .loop in
-    let l = a .before .args .t1 in
-    sym (x .inv .0 ∙ test-ended (a .before .args .n) l (x .i) (x .seen) (x .ended) (b .if1 .taken) ∙ unused-stop l (x .i) (sym (c .before .is-unused .ensures) ∙ not-true _ (c .if2 .taken)))
+    let o = b .before .before .before .before in
+    let x = o .loop in
+    let g = o .before .before .args in
+    sym (x .inv .0 (g .attributes) (o .before .most-asked .ensures)
+    ∙ test-ended (g .attributes) (g .n) (g .t2) (x .i) (x .seen) (x .ended) (b .if1 .taken) ∙ unused-stop (g .t2) (x .i) (sym (c .before .is-unused .ensures) ∙ not-true _ (c .if2 .taken)))
 
 returns-2 : tie.Need-returns-2 Inv-loop μ-loop
 returns-2 c =
     let b = c .before .before in
-    let a = b .before .before .before .before in
-    let x = a .loop in
-    sym (x .inv .0 ∙ test-bad (a .before .args .n) (a .before .args .t1) (x .i) (x .seen) (x .ended) (b .if1 .left) (sym (c .before .is-entry .ensures) ∙ not-true _ (c .if3 .taken)))
+    let o = b .before .before .before .before in
+    let x = o .loop in
+    let g = o .before .before .args in
+    let k = o .before .most-asked .ensures in
+    sym (x .inv .0 (g .attributes) k
+    ∙ test-bad (g .attributes) (g .n) (g .t2) (x .i) (x .seen) (x .ended) (b .if1 .left) (sym (c .before .is-entry .ensures (g .attributes) (g .n) k) ∙ not-true _ (c .if3 .taken)))
 
-number : (c : tie.Else3 Inv-loop μ-loop) → getD (c .before .before .before .before .before .before .before .args .t1) (c .before .before .before .before .before .before .loop .i) noEntry .task < suc most-tasks
+number : (c : tie.Else3 Inv-loop μ-loop)
+    → getD (c .before .before .before .before .before .before .before .before .args .t2) (c .before .before .before .before .before .before .loop .i) noEntry .task < suc most-tasks
 number c =
-    let a = c .before .before .before .before .before .before in
-    omega (arith, entry-number (a .before .args .n) (getD (a .before .args .t1) (a .loop .i) noEntry) (sym (c .before .is-entry .ensures) ∙ not-false _ (c .if3 .left)))
+    let o = c .before .before .before .before .before .before in
+    let g = o .before .before .args in
+    omega (arith, entry-number (g .attributes) (g .n) (getD (g .t2) (o .loop .i) noEntry) (sym (c .before .is-entry .ensures (g .attributes) (g .n) (o .before .most-asked .ensures)) ∙ not-false _ (c .if3 .left)))
 
 returns-3 : tie.Need-returns-3 Inv-loop μ-loop
 returns-3 c =
     let b = c .before .before .before .before in
-    let a = b .before .before .before .before in
-    let x = a .loop in
-    sym (x .inv .0 ∙ test-twice (a .before .args .n) (a .before .args .t1) (x .i) (x .seen) (x .ended) (b .if1 .left) (c .if4 .taken))
+    let o = b .before .before .before .before in
+    let x = o .loop in
+    let g = o .before .before .args in
+    sym (x .inv .0 (g .attributes) (o .before .most-asked .ensures) ∙ test-twice (g .attributes) (g .n) (g .t2) (x .i) (x .seen) (x .ended) (b .if1 .left) (c .if4 .taken))
 
 loop-again : tie.Need-loop-again Inv-loop μ-loop
 loop-again c =
-    let a = c .before .before .before .before in
-    let x = a .loop in
-    let n = a .before .args .n in
-    let l = a .before .args .t1 in
+    let o = c .before .before .before .before in
+    let x = o .loop in
+    let n = o .before .before .args .n in
+    let l = o .before .before .args .t2 in
+    let e = getD l (x .i) noEntry in
     ⊎-elim
-    (λ w. (x .inv .0 ∙ rw (w .4) (test-ended n l (x .i) (x .seen) (x .ended) (w .0 .taken) ∙ unused-go l (x .i) (sym (w .1 .ensures) ∙ not-false _ (w .2 .left))), rw (w .3) (x .inv .1)))
-    (λ w. let ok = sym (w .1 .ensures) ∙ not-false _ (w .2 .left) in (
-      x .inv .0 ∙ rw (w .5, w .6) (test-go n l (x .i) (x .seen) (x .ended) (w .0 .left) ok (w .4 .left) (omega (arith, x .inv .1, entry-number n (getD l (x .i) noEntry) ok))),
+    (λ w. (
+      λ a k. x .inv .0 a k ∙ rw (w .4) (test-ended a n l (x .i) (x .seen) (x .ended) (w .0 .taken) ∙ unused-go l (x .i) (sym (w .1 .ensures) ∙ not-false _ (w .2 .left))),
+      rw (w .3) (x .inv .1),
+    ))
+    (λ w. (
+      λ a k. let ok : okEntry (rules a n) e ≡ true = sym (w .1 .ensures a n k) ∙ not-false _ (w .2 .left) in
+          x .inv .0 a k ∙ rw (w .5, w .6) (test-go a n l (x .i) (x .seen) (x .ended) (w .0 .left) ok (w .4 .left) (omega (arith, x .inv .1, entry-number a n e ok))),
       rw (w .5) (length-set (x .seen) _ true ∙ x .inv .1),
     ))
     (c .if1 .came)
 
 returns-4 : tie.Need-returns-4 Inv-loop μ-loop
 returns-4 c =
-    let a = c .before in
-    let x = a .loop in
-    let h : length (a .before .args .t1) ≡ most-tasks = search needs in
-    sym (x .inv .0 ∙ test-end (a .before .args .n) (a .before .args .t1) (x .i) (x .seen) (x .ended) h (c .loop-test .left))
+    let o = c .before in
+    let x = o .loop in
+    let g = o .before .before .args in
+    let h : length (g .t2) ≡ most-tasks = search needs in
+    sym (x .inv .0 (g .attributes) (o .before .most-asked .ensures) ∙ test-end (g .attributes) (g .n) (g .t2) (x .i) (x .seen) (x .ended) h (c .loop-test .left))
 
 pub is-sound-spec : {M : Type 1} → statement M
 is-sound-spec =
     tie.close
-    (tie.spec Inv-loop μ-loop (λ c. (test-starts _ (suc most-tasks) _, refl)) (λ c. search needs) (λ c. search needs) (λ c κs. tt) returns (λ c κs. tt) returns-2
+    (tie.spec Inv-loop μ-loop (λ c κs. tt) (λ c. (λ a e. test-starts a _ (suc most-tasks) _, refl)) (λ c. search needs) (λ c. search needs) (λ c κs. tt) returns (λ c κs. tt) returns-2
     (λ c. search needs) (λ c. number (c .before)) returns-3 (λ c. number (c .before .before)) (λ c. search needs)
     (λ c. search needs) loop-again returns-4)

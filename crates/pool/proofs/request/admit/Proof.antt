@@ -26,7 +26,7 @@ returns c =
 grant-at-requires : tie.Need-grant-at-requires
 grant-at-requires c κs =
     let a = c .before .before .before .before .before .before .before .before .before .args in
-    rw (c .need .ensures) (admit-grantable (a .pool .now) (a .queue) (entry (a .task) (a .size) (a .left)) (a .found) (c .before .before .before .before .before .before .before .before .before .pre) (c .before .before .before .before .run .given .0 .0) (sym (c .before .before .before .before .before .before .run-for .ensures) ∙ c .before .before .before .before .run .given .1))
+    rw (c .before .need .ensures) (admit-grantable (a .pool .now) (a .queue) (entry (a .task) (a .size) (a .left)) (a .found) (c .before .before .before .before .before .before .before .before .before .pre) (c .before .before .before .before .run .given .0 .0) (sym (c .before .before .before .before .before .before .run-for .ensures) ∙ c .before .before .before .before .run .given .1))
 
 offset-of-requires : tie.Need-offset-of-requires
 offset-of-requires c κs =
@@ -40,7 +40,7 @@ returns-2 c =
     let n : length (a .queue .entries) ≡ most-tasks = search (needs, length-of-map) in
     let s = c .before .before .before .before .before .before .before .before .before .run .given .0 .0 in
     admit-granted (a .pool .now) (a .queue) (entry (a .task) (a .size) (a .left)) (a .found) (c .before .before .before .before .before .before .before .before .before .before .before .before .before .before .pre) s (sym (c .before .before .before .before .before .before .before .before .before .before .before .run-for .ensures) ∙ c .before .before .before .before .before .before .before .before .before .run .given .1) (c .before .offset-of .result) (c .nobody .result) (c .before .before .before .before .grant-at .last .0) (a .poll) n
-    (c .before .offset-of .ensures) (c .nobody .ensures) (c .before .before .before .before .grant-at .ensures ∙ ap (λ (i : ℕ). changed (granted i (a .task)) (a .pool .now)) (c .before .before .before .before .before .need .ensures))
+    (c .before .offset-of .ensures) (c .nobody .ensures) (c .before .before .before .before .grant-at .ensures ∙ ap (λ (i : ℕ). changed (granted i (a .task)) (a .pool .now)) (c .before .before .before .before .before .before .need .ensures))
 
 pub admit-spec : {M : Type 1} → statement M
 admit-spec =

@@ -4,7 +4,7 @@ use Rattle.pool.proofs.request.hold.Statement.{statement}
 use Rattle.pool.proofs.request.hold.Tie as tie
 
 returns-2 : tie.Need-returns-2
-returns-2 c = rw (c .before .before .before .if1 .left, c .join .ensures, c .before .nobody .ensures)
+returns-2 c = rw (c .before .before .before .before .if1 .left, c .join .ensures, c .before .nobody .ensures)
 
 pub hold-spec : {M : Type 1} → statement M
 hold-spec =

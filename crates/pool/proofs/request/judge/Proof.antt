@@ -5,8 +5,8 @@ use mir.Syntax.{w32}
 use mir.ValLaws.{toZ-ofZ}
 use borrow.Author.Tests.{not-true, not-false}
 use borrow.Author.Needs.{needs}
-use Rattle.model.specs.Rules.{okTask, okSize, base}
-use Rattle.model.specs.Places.{used}
+use Rattle.model.specs.Rules.{okTask, mostAsked, okSize, rules}
+use Rattle.model.specs.Places.{entriesOf}
 use Rattle.queue.specs.Entries.{limitOf}
 use Rattle.queue.specs.declared.Limit.the-variants as limit
 use Rattle.queue.proofs.Time.{limit-asks}
@@ -14,45 +14,53 @@ use Rattle.pool.proofs.Judging.{task-refused, size-refused, limit-refus
 use Rattle.pool.proofs.request.judge.Statement.{statement}
 use Rattle.pool.proofs.request.judge.Tie as tie
 
-waited : (c : tie.After-wait-of) → c .wait-of .result ≡ limitOf (c .before .before .before .before .before .before .args .limit)
-waited c = c .wait-of .ensures ∙ ap limitOf (toZ-ofZ w32 (c .before .before .before .before .before .before .args .limit) (c .before .before .before .before .before .before .fits .limit))
+waited : (c : tie.After-wait-of) → c .wait-of .result ≡ limitOf (c .before .before .before .before .before .before .before .before .args .limit)
+waited c = let s = c .before .before .before .before .before .before .before .before in c .wait-of .ensures ∙ ap limitOf (toZ-ofZ w32 (s .args .limit) (s .fits .limit))
 
-task-good : (c : tie.Else2) → okTask (base (c .before .before .before .before .args .n)) (c .before .before .before .before .args .task) ≡ true
-task-good c = sym (c .before .before .before .is-task .ensures (c .before .before .before .before .args .n)) ∙ not-false _ (c .before .before .if1 .left)
+task-good : (c : tie.Else1) → let a = c .before .before .args in okTask (rules (a .queue .attributes) (a .n)) (a .task) ≡ true
+task-good c = let a = c .before .before .args in sym (c .before .is-task .ensures (a .queue .attributes) (a .n)) ∙ not-false _ (c .if1 .left)
 
-size-good : (c : tie.Else2) → okSize (c .before .before .before .before .args .n) (c .before .before .before .before .args .size) ≡ true
-size-good c = sym (c .before .is-size .ensures) ∙ not-false _ (c .if2 .left)
+size-good : (c : tie.Else2) → let a = c .before .before .before .before .before .args in okSize (mostAsked (a .queue .attributes) (a .n)) (a .size) ≡ true
+size-good c =
+    let a = c .before .before .before .before .before .args in
+    ap (λ m. okSize m (a .size)) (sym (c .before .before .most-asked .ensures)) ∙ sym (c .before .is-size .ensures) ∙ not-false _ (c .if2 .left)
 
 returns : tie.Need-returns
 returns c =
-    let a = c .before .before .args in task-refused (a .n) (a .task) (a .size) (a .limit) (used (a .entries)) (sym (c .before .is-task .ensures (a .n)) ∙ not-true _ (c .if1 .taken))
+    let a = c .before .before .args in
+    task-refused (a .queue .attributes) (a .n) (a .task) (a .size) (a .limit) (entriesOf (a .queue)) (sym (c .before .is-task .ensures (a .queue .attributes) (a .n)) ∙ not-true _ (c .if1 .taken))
 
 returns-2 : tie.Need-returns-2
 returns-2 c =
-    let a = c .before .before .before .before .args in
-    size-refused (a .n) (a .task) (a .size) (a .limit) (used (a .entries)) (sym (c .before .before .before .is-task .ensures (a .n)) ∙ not-false _ (c .before .before .if1 .left)) (sym (c .before .is-size .ensures) ∙ not-true _ (c .if2 .taken))
+    let a = c .before .before .before .before .before .args in
+    size-refused (a .queue .attributes) (a .n) (a .task) (a .size) (a .limit) (entriesOf (a .queue)) (task-good (c .before .before .before))
+    (ap (λ m. okSize m (a .size)) (sym (c .before .before .most-asked .ensures)) ∙ sym (c .before .is-size .ensures) ∙ not-true _ (c .if2 .taken))
 
 returns-3 : tie.Need-returns-3
 returns-3 c =
-    let d = c .before .before .before .before in
-    let a = c .before .before .before .before .before .before .before .before .args in
-    limit-refused (a .n) (a .task) (a .size) (a .limit) (used (a .entries)) (task-good d) (size-good d) (limit-asks (a .limit) limit.Refused (sym (c .enum-told .given .1) ∙ waited (c .before .before)))
+    let d = c .before .before .before .before .before in
+    let a = d .before .before .before .before .before .args in
+    limit-refused (a .queue .attributes) (a .n) (a .task) (a .size) (a .limit) (entriesOf (a .queue)) (task-good (d .before .before .before)) (size-good d)
+    (limit-asks (a .limit) limit.Refused (sym (c .enum-told .given .1) ∙ waited (c .before .before)))
 
 returns-4 : tie.Need-returns-4
 returns-4 c =
-    let d = c .before .before .before .before .before in
-    let a = c .before .before .before .before .before .before .before .before .before .args in
+    let d = c .before .before .before .before .before .before in
+    let a = d .before .before .before .before .before .args in
+    let find = c .before .before .before .before .find in
     let k = limit-asks (a .limit) limit.Poll (sym (c .before .enum-told2 .given .1) ∙ waited (c .before .before .before)) in
-    c .place .ensures ∙ slot-judged (a .n) (a .task) (a .size) (a .limit) (used (a .entries)) (task-good d) (size-good d) (c .before .before .before .before .find .result) true 0 (k .0) (c .before .before .before .before .find .ensures) (sym (k .1)) (rw (k .1))
+    c .place .ensures ∙ slot-judged (a .queue .attributes) (a .n) (a .task) (a .size) (a .limit) (entriesOf (a .queue)) (task-good (d .before .before .before)) (size-good d)
+    (find .result) true 0 (k .0) (find .ensures) (sym (k .1)) (rw (k .1))
 
 returns-5 : tie.Need-returns-5
 returns-5 c =
-    let d = c .before .before .before .before .before .before in
-    let a = c .before .before .before .before .before .before .before .before .before .before .args in
+    let d = c .before .before .before .before .before .before .before in
+    let a = d .before .before .before .before .before .args in
+    let find = c .before .before .before .before .before .find in
     let left = c .before .before .wait .given .0 .0 in
     let k = limit-asks (a .limit) (limit.Wait left) (sym (c .before .before .wait .given .1) ∙ waited (c .before .before .before .before)) in
-    c .place2 .ensures ∙ slot-judged (a .n) (a .task) (a .size) (a .limit) (used (a .entries)) (task-good d) (size-good d) (c .before .before .before .before .before .find .result) false left (k .0) (c .before .before .before .before .before .find .ensures) (sym (k .1))
-    (k .2 ∙ rw (k .1))
+    c .place2 .ensures ∙ slot-judged (a .queue .attributes) (a .n) (a .task) (a .size) (a .limit) (entriesOf (a .queue)) (task-good (d .before .before .before)) (size-good d)
+    (find .result) false left (k .0) (find .ensures) (sym (k .1)) (k .2 ∙ rw (k .1))
 
 pub judge-spec : {M : Type 1} → statement M
 judge-spec =
@@ -60,6 +68,7 @@ judge-spec =
     (tie.spec
     (λ c κs. search needs)
     returns
+    (λ c κs. search needs)
     (λ c κs. search needs)
     returns-2
     (λ c κs. search needs)

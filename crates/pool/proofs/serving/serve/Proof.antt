@@ -11,7 +11,7 @@ use Rattle.model.specs.declared.Answer.{Answer}
 use Rattle.model.specs.declared.Entry.{Entry}
 use Rattle.model.specs.Limits.{most-tasks, e-ok}
 use Rattle.model.specs.Bytes.{blocksOf, erase}
-use Rattle.model.specs.Rules.{base}
+use Rattle.model.specs.Rules.{rules}
 use Rattle.model.specs.Calls as calls
 use Rattle.model.specs.Calls.{noOffset, noPlace}
 use Rattle.model.specs.Places.{noEntry, pad, used}
@@ -26,10 +26,12 @@ use Rattle.pool.proofs.serving.serve.Statement.{statement}
 use Rattle.pool.proofs.serving.serve.Tie as tie
 
 abbrev Inv-loop : tie.InvT-loop
-Inv-loop pool₀ before most entries noted₀ i₀ pool noted i = (i ≤ length (used entries)) × Loop (erase (blocksOf pool₀) pool₀) (length pool₀) most noted₀ before (calls.serve (base (length pool₀)) (calls.blocks (base (length pool₀))) (blocksOf pool₀) (used entries)) pool (used (drop i entries)) noted (before + i)
+Inv-loop pool₀ attributes before most entries noted₀ i₀ pool noted i =
+    let K = rules attributes (length pool₀) in
+    (i ≤ length (used entries)) × Loop attributes (erase (blocksOf pool₀) pool₀) (length pool₀) most noted₀ before (calls.serve K (calls.blocks K) (blocksOf pool₀) (used entries)) pool (used (drop i entries)) noted (before + i)
 
 abbrev μ-loop : tie.MeasureT-loop
-μ-loop pool₀ before most entries noted₀ i₀ pool noted i = most-tasks - i
+μ-loop pool₀ attributes before most entries noted₀ i₀ pool noted i = most-tasks - i
 
 -- ---- a turn: the entries, the one at hand, and those behind it
 
@@ -37,7 +39,7 @@ abbrev Turn : Type 0
 Turn = tie.At-loop Inv-loop μ-loop
 
 abbrev entries : Turn → List Entry
-entries a = a .before .before .args .t2
+entries a = a .before .before .args .t3
 
 abbrev this : Turn → Entry
 this a = getD (entries a) (a .loop .i) noEntry
@@ -64,7 +66,7 @@ fit c s e =
 loop-holds : tie.Need-loop-holds Inv-loop μ-loop
 loop-holds c =
     let a = c .before .args in
-    (omega arith, rw (add-zero (a .before)) (loop-starts (a .pool .now) (a .t2) (used (a .t2)) (a .woken) (a .before) (a .most) (λ i. omega (arith, c .slice-known .given i)) (c .before .pre) (search needs) refl))
+    (omega arith, rw (add-zero (a .before)) (loop-starts (a .attributes) (a .pool .now) (a .t3) (used (a .t3)) (a .woken) (a .before) (a .most) (λ i. omega (arith, c .slice-known .given i)) (c .before .pre) (search needs) refl))
 
 grant-at-requires : tie.Need-grant-at-requires Inv-loop μ-loop
 grant-at-requires c κs = fit (c .before .before .before .before .before .before) (c .before .before .before .before .found .given .0 .0) (c .before .before .before .before .found .given .1)
@@ -123,7 +125,7 @@ returns-2 c =
     let z : x .i ≡ 0 = omega (arith, c .if3 .left) in
     let n : length (entries a) ≡ most-tasks = search needs in
     let w : entries a ≡ pad noEntry most-tasks (used (entries a)) = rw (← n) (tidy-is (entries a) (a .before .before .pre .places)) in
-    loop-answer (x .inv .1) (still (c .before)) _ (rw z (ap {B = Answer} (λ (es : List Entry). record { code = e-ok; offset = noOffset; reason = 0; place = noPlace; woken = x .noted; queue = record { entries = es } }) w))
+    loop-answer (x .inv .1) (still (c .before)) _ (rw z (ap {B = Answer} (λ (es : List Entry). record { code = e-ok; offset = noOffset; reason = 0; place = noPlace; woken = x .noted; queue = record { attributes = a .before .before .args .attributes; entries = es } }) w))
 
 pub serve-spec : {M : Type 1} → statement M
 serve-spec =

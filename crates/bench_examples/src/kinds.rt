@@ -1,0 +1,64 @@
+// Pools with size kinds.
+use crate::calls;
+use crate::refusals;
+use crate::show;
+use model::Attributes;
+use model::Queue;
+use model::WITH_KINDS;
+
+// The greatest request is 20, so the kinds are 12 and 36.
+fn two_kinds(buffer: &mut [u8; 64]) {
+    show::title(b"kinds 12 and 36");
+    let fresh = calls::create_with(buffer, WITH_KINDS, 20);
+    let too_great = calls::get(buffer, fresh, 1, 21, -1);
+    let first = calls::get(buffer, too_great, 1, 1, -1);
+    let second = calls::get(buffer, first, 2, 13, -1);
+    let third = calls::get(buffer, second, 3, 20, -1);
+    let fourth = calls::get(buffer, third, 4, 12, 5);
+    show::state(buffer, fourth);
+    let released = calls::release(buffer, fourth, 8);
+    let cancelled = calls::cancel(buffer, released, 3);
+    show::state(buffer, cancelled);
+    show::kept(cancelled);
+}
+
+// The top kind and 8 just fit, or miss by 4; no greatest request; one above every kind; one without kinds; unknown choices.
+fn choices() {
+    show::title(b"choices of create");
+    calls::create_with(&mut [170; 20], WITH_KINDS, 1);
+    calls::create_with(&mut [170; 16], WITH_KINDS, 1);
+    calls::create_with(&mut [170; 380], WITH_KINDS, 372);
+    calls::create_with(&mut [170; 376], WITH_KINDS, 372);
+    calls::create_with(&mut [170; 764], WITH_KINDS, 373);
+    calls::create_with(&mut [170; 65536], WITH_KINDS, 49140);
+    calls::create_with(&mut [170; 65536], WITH_KINDS, 49141);
+    calls::create_with(&mut [170; 65536], WITH_KINDS, 201326580);
+    calls::create_with(&mut [170; 65536], WITH_KINDS, 4294967295);
+    calls::create_with(&mut [170; 64], WITH_KINDS, 0);
+    calls::create_with(&mut [170; 64], 0, 1);
+    calls::create_with(&mut [170; 64], 2, 0);
+    calls::create_with(&mut [170; 64], 4294967295, 20);
+}
+
+// A queue that keeps what create would refuse: a choice of 1 without a greatest request.
+fn spoiled(buffer: &mut [u8; 64]) {
+    show::title(b"a choice without a greatest request");
+    let fresh = calls::create_with(buffer, WITH_KINDS, 20);
+    let entries = fresh.entries;
+    refusals::all_calls(
+        buffer,
+        Queue {
+            attributes: Attributes {
+                kinds: WITH_KINDS,
+                greatest: 0,
+            },
+            entries: entries,
+        },
+    );
+}
+
+pub fn run() {
+    two_kinds(&mut [170; 64]);
+    choices();
+    spoiled(&mut [170; 64]);
+}
