@@ -1,8 +1,8 @@
 // Replays a log of calls from standard input on a memory pool of zeros and writes its text to standard output.
 //
 // The pool's bytes are tiled by blocks, each with a header of 8 bytes: its size and its owner, 4 bytes each, lowest
-// first. The queue has 32 places. Nothing else is kept between calls: each call tests the whole state, in one walk
-// over the headers that also finds the block or the free run sought.
+// first. The queue has 32 places and an order, FIFO or by priority. Nothing else is kept between calls: each call tests
+// the whole state, in one walk over the headers that also finds the block or the free run sought.
 #define _POSIX_C_SOURCE 200809L
 #include <errno.h>
 #include <stdbool.h>
@@ -21,6 +21,8 @@
 #define FOREVER UINT32_MAX           // ticks left of a wait without limit
 #define NOWHERE SIZE_MAX             // no place of a header
 #define NO_NEED SIZE_MAX             // no free run is as large
+#define BEST 1                       // the best priority
+#define WORST 16                     // the worst priority
 
 enum code {
     E_OK = 0,
@@ -44,10 +46,23 @@ struct entry {
     uint32_t task;
     uint32_t size; // as asked
     uint32_t left; // ticks left
+    uint32_t priority;
 };
 
+// How requests stand in the queue: as they came, or best priority first and those of equal priority as they came.
+enum order { FIFO = 0, PRIORITY = 1 };
+
 struct queue {
+    uint32_t order; // an enum order
     struct entry places[TASKS];
+};
+
+// What a get or a poll asks. A limit of -1 waits forever, 0 does not wait, n > 0 ends in tick n + 1 after the call.
+struct request {
+    uint32_t task;
+    uint32_t size;
+    uint32_t priority;
+    int32_t limit;
 };
 
 // A task whose wait a call ended.
@@ -210,31 +225,50 @@ static bool is_size(uint32_t size, size_t len)
     return size >= 1 && size <= len - HEADER;
 }
 
+static bool is_priority(uint32_t priority)
+{
+    return priority >= BEST && priority <= WORST;
+}
+
+static bool is_order(uint32_t order)
+{
+    return order == FIFO || order == PRIORITY;
+}
+
 static bool is_entry(const struct entry *entry, size_t len)
 {
     const bool is_left = entry->left >= 1 && (entry->left <= MAX_LEFT || entry->left == FOREVER);
 
-    return is_task(entry->task) && is_size(entry->size, len) && is_left;
+    return is_task(entry->task) && is_size(entry->size, len) && is_left && is_priority(entry->priority);
 }
 
-// Whether the entries are allowed, no task stands twice, and the places behind the last entry are all zeros.
+// Whether the order and the entries are allowed, no task stands twice, a priority queue stands best first, and the
+// places behind the last entry are all zeros.
 static bool is_queue_sound(const struct queue *queue, size_t len)
 {
-    uint32_t tasks = 0; // bit n - 1 stands for task n
+    const bool by_priority = queue->order == PRIORITY;
+    uint32_t best = BEST; // best priority that the next entry may have
+    uint32_t tasks = 0;   // bit n - 1 stands for task n
     uint32_t bits = 0;
     size_t i = 0;
 
+    if (!is_order(queue->order))
+        return false;
     for (; i < TASKS && queue->places[i].task != 0; i++) {
         const struct entry *entry = &queue->places[i];
-        if (!is_entry(entry, len))
+        if (!is_entry(entry, len) || entry->priority < best)
             return false;
+        if (by_priority)
+            best = entry->priority;
         const uint32_t task = UINT32_C(1) << (entry->task - 1);
         if (tasks & task)
             return false;
         tasks |= task;
     }
-    for (; i < TASKS; i++)
-        bits |= queue->places[i].task | queue->places[i].size | queue->places[i].left;
+    for (; i < TASKS; i++) {
+        const struct entry *entry = &queue->places[i];
+        bits |= entry->task | entry->size | entry->left | entry->priority;
+    }
     return bits == 0;
 }
 
@@ -246,6 +280,27 @@ static size_t find_task(const struct queue *queue, uint32_t task)
     while (i < TASKS && queue->places[i].task != task)
         i++;
     return i;
+}
+
+// Whether a request of this priority comes before everybody who waits. The head of a sound queue decides.
+static bool is_next(const struct queue *queue, uint32_t priority)
+{
+    const struct entry *head = &queue->places[0];
+
+    return head->task == 0 || (queue->order == PRIORITY && head->priority > priority);
+}
+
+// Puts an entry behind the others; in a priority queue only behind those of better or equal priority.
+static void join(struct queue *queue, struct entry entry)
+{
+    struct entry *places = queue->places;
+    size_t i = find_task(queue, 0);
+
+    if (queue->order == PRIORITY) {
+        for (; i > 0 && places[i - 1].priority > entry.priority; i--)
+            places[i] = places[i - 1];
+    }
+    places[i] = entry;
 }
 
 static void remove_entries(struct queue *queue, size_t first, size_t count)
@@ -271,14 +326,16 @@ static void expire(struct queue *queue, struct answer *answer)
     size_t i = 0;
 
     for (; i < TASKS && places[i].task != 0; i++) {
-        struct entry entry = places[i];
-        if (entry.left == 1) {
-            wake(answer, entry.task, E_TMOUT, 0);
+        struct entry *entry = &places[i];
+        if (entry->left == 1) {
+            wake(answer, entry->task, E_TMOUT, 0);
             continue;
         }
-        if (entry.left != FOREVER)
-            entry.left--;
-        places[kept++] = entry;
+        if (entry->left != FOREVER)
+            entry->left--;
+        if (kept < i)
+            places[kept] = *entry;
+        kept++;
     }
     memset(places + kept, 0, (i - kept) * sizeof *places);
 }
@@ -320,47 +377,47 @@ static void serve(struct pool pool, struct queue *queue, size_t most, struct ans
     remove_entries(queue, 0, served);
 }
 
-static enum code create(struct pool pool, struct queue *queue)
+static enum code create(struct pool pool, uint32_t order, struct queue *queue)
 {
     memset(queue, 0, sizeof *queue);
-    if (!is_pool_length(pool.len))
+    if (!is_pool_length(pool.len) || !is_order(order))
         return E_PAR;
     write_header(pool, 0, pool.len, 0);
+    queue->order = order;
     return E_OK;
 }
 
 // The tests of a request in a sound state.
-static enum code judge(const struct queue *queue, size_t len, uint32_t task, uint32_t size, int32_t limit)
+static enum code judge(const struct queue *queue, size_t len, struct request request)
 {
-    if (!is_task(task))
+    if (!is_task(request.task))
         return E_ID;
-    if (!is_size(size, len) || limit < -1)
+    if (!is_size(request.size, len) || request.limit < -1 || !is_priority(request.priority))
         return E_PAR;
-    if (find_task(queue, task) < TASKS)
+    if (find_task(queue, request.task) < TASKS)
         return E_CTX;
     return E_OK;
 }
 
-// A limit of -1 waits forever, 0 does not wait, n > 0 ends in tick n + 1 after the call.
-static void get(struct pool pool, struct queue *queue, uint32_t task, uint32_t size, int32_t limit,
-                struct answer *answer)
+static void get(struct pool pool, struct queue *queue, struct request request, struct answer *answer)
 {
+    const size_t need = need_of(request.size);
     struct survey survey;
 
-    if (!inspect(pool, queue, need_of(size), NOWHERE, &survey)) {
+    if (!inspect(pool, queue, need, NOWHERE, &survey)) {
         answer_with(answer, E_SYS, 0);
         return;
     }
-    const enum code code = judge(queue, pool.len, task, size, limit);
+    const enum code code = judge(queue, pool.len, request);
     if (code != E_OK) {
         answer_with(answer, code, 0);
-    } else if (queue->places[0].task == 0 && survey.place != NOWHERE) {
-        answer_with(answer, E_OK, grant(pool, survey.place, need_of(size), task));
-    } else if (limit == 0) {
+    } else if (survey.place != NOWHERE && is_next(queue, request.priority)) {
+        answer_with(answer, E_OK, grant(pool, survey.place, need, request.task));
+    } else if (request.limit == 0) {
         answer_with(answer, E_TMOUT, 0);
     } else {
-        const uint32_t left = limit == -1 ? FOREVER : (uint32_t)limit + 1;
-        queue->places[find_task(queue, 0)] = (struct entry){task, size, left};
+        const uint32_t left = request.limit == -1 ? FOREVER : (uint32_t)request.limit + 1;
+        join(queue, (struct entry){request.task, request.size, left, request.priority});
         answer_with(answer, WAITING, 0);
     }
 }
@@ -421,7 +478,8 @@ static void tick(struct pool pool, struct queue *queue, struct answer *answer)
 
 // ---- log
 
-enum kind { GET = 1, POLL, RELEASE, CANCEL, TICK };
+// A get or poll without a priority has the worst. The mark of a priority pool stands only directly after the length.
+enum kind { GET = 1, POLL, RELEASE, CANCEL, TICK, PRIORITY_GET, PRIORITY_POLL, PRIORITY_POOL };
 
 #define MAX_LIMIT_FIELD (UINT32_C(1) << 31)
 
@@ -433,7 +491,7 @@ struct reader {
 
 struct record {
     uint32_t kind;
-    uint32_t fields[3];
+    uint32_t fields[4];
 };
 
 // Reads a number of seven-bit groups, lowest first. False if it is cut off, not in its shortest form or above 2^32 - 1.
@@ -457,34 +515,58 @@ static bool read_number(struct reader *log, uint32_t *value)
 // False if the record is bad.
 static bool read_record(struct reader *log, struct record *record)
 {
-    static const size_t field_counts[] = {[GET] = 3, [POLL] = 2, [RELEASE] = 1, [CANCEL] = 1, [TICK] = 0};
+    static const size_t field_counts[] = {
+        [GET] = 3, [POLL] = 2, [RELEASE] = 1, [CANCEL] = 1, [TICK] = 0, [PRIORITY_GET] = 4, [PRIORITY_POLL] = 3,
+    };
 
-    if (!read_number(log, &record->kind) || record->kind < GET || record->kind > TICK)
+    if (!read_number(log, &record->kind) || record->kind < GET || record->kind > PRIORITY_POLL)
         return false;
     for (size_t i = 0; i < field_counts[record->kind]; i++) {
         if (!read_number(log, &record->fields[i]))
             return false;
     }
-    return record->kind != GET || record->fields[2] <= MAX_LIMIT_FIELD;
+    const bool has_limit = record->kind == GET || record->kind == PRIORITY_GET;
+    return !has_limit || record->fields[2] <= MAX_LIMIT_FIELD;
 }
 
-// Makes the call of a record. A limit field is the limit plus 1.
+// Takes the mark of a priority pool if the rest of the log begins with it. A number below 128 is a single byte.
+static enum order read_order(struct reader *log)
+{
+    if (log->at == log->end || *log->at != PRIORITY_POOL)
+        return FIFO;
+    log->at++;
+    return PRIORITY;
+}
+
+// A limit field is the limit plus 1.
+static int32_t limit_of(uint32_t field)
+{
+    return (int32_t)((int64_t)field - 1);
+}
+
+// Makes the call of a record.
 static void call(const struct record *record, struct pool pool, struct queue *queue, struct answer *answer)
 {
     const uint32_t *fields = record->fields;
 
     switch (record->kind) {
     case GET:
-        get(pool, queue, fields[0], fields[1], (int32_t)((int64_t)fields[2] - 1), answer);
+        get(pool, queue, (struct request){fields[0], fields[1], WORST, limit_of(fields[2])}, answer);
         break;
     case POLL:
-        get(pool, queue, fields[0], fields[1], 0, answer);
+        get(pool, queue, (struct request){fields[0], fields[1], WORST, 0}, answer);
         break;
     case RELEASE:
         release(pool, queue, fields[0], answer);
         break;
     case CANCEL:
         cancel(pool, queue, fields[0], answer);
+        break;
+    case PRIORITY_GET:
+        get(pool, queue, (struct request){fields[0], fields[1], fields[3], limit_of(fields[2])}, answer);
+        break;
+    case PRIORITY_POLL:
+        get(pool, queue, (struct request){fields[0], fields[1], fields[2], 0}, answer);
         break;
     default:
         tick(pool, queue, answer);
@@ -638,7 +720,7 @@ static bool replay(const uint8_t *start, size_t len, struct text *text)
         return true;
     }
     const struct pool pool = {buffer, number};
-    const enum code code = create(pool, &queue);
+    const enum code code = create(pool, read_order(&log), &queue);
     if (code != E_OK) {
         put_string(text, "pool refused ");
         put_code(text, code);

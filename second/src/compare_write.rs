@@ -82,13 +82,13 @@ fn request_case(request: &Request) -> Case {
 /// log is not read whole or has too many records. The reply is made from the
 /// log, not by the own writer.
 pub fn log_case(rng: &mut Rng, log: &[u8]) -> Option<Case> {
-    let (pool_len, records) = read_log(log)?;
+    let (start, records) = read_log(log)?;
     if records.len() > MAX_RECORDS {
         return None;
     }
     let request = Request {
         buffer_len: log.len(),
-        pool_len,
+        start,
         columns: columns_of(rng, &records),
     };
     let line = format!("0 {}\n", log.len());

@@ -7,6 +7,7 @@ use crate::codes::{E_OK, E_TMOUT, INSIDE_BLOCK};
 use crate::log::{Fault, Record};
 use crate::number::NumberFault;
 use crate::pool::{Answer, Pool, MAX_LEN};
+use crate::priority_coverage::order_name;
 use crate::queue::Queue;
 use crate::replay::{Replay, StartFault, Step, MAX_LOG};
 use crate::runs::HEADER;
@@ -59,6 +60,7 @@ impl Coverage {
             MAX_LEN => self.add("pool of the greatest length"),
             _ => {}
         }
+        self.add(order_name(replay.pool()));
         let mut waits = Waits::default();
         loop {
             let before = replay.pool().queue().clone();
@@ -67,11 +69,13 @@ impl Coverage {
                     self.add_call(record, &answer);
                     self.add_details(&before, replay.pool(), record, &answer);
                     self.add_kinds_call(&before, replay.pool(), record, &answer);
+                    self.add_priority_call(&before, replay.pool(), record, &answer);
                     self.add_ended(&waits.follow(record, &answer));
                 }
                 Step::End => return self.add("end clean"),
-                Step::Bad(_, fault) => {
-                    return self.add(format!("bad record, {}", fault_name(fault)))
+                Step::Bad(place, fault) => {
+                    self.add_misplaced_order(log, place, fault);
+                    return self.add(format!("bad record, {}", fault_name(fault)));
                 }
             }
             self.add_state(replay.pool());
@@ -120,10 +124,10 @@ impl Coverage {
 
     /// `before` is the queue before the call, `pool` the pool after it.
     fn add_details(&mut self, before: &Queue, pool: &Pool, record: Record, answer: &Answer) {
+        if record.asked().is_some_and(|asked| asked.limit == i32::MAX) {
+            self.add("limit field 2^31");
+        }
         match record {
-            Record::Get {
-                limit: i32::MAX, ..
-            } => self.add("limit field 2^31"),
             Record::Cancel { task } if answer.code == E_OK => {
                 let place = before.place(task).map_or(0, |place| place + 1);
                 self.add(format!("cancel at place {place:02}"));
@@ -180,9 +184,9 @@ impl Coverage {
 
 pub(crate) fn call_name(record: Record) -> &'static str {
     match record {
-        Record::Get { limit: 0, .. } => "get with limit 0,",
-        Record::Get { .. } => "get",
-        Record::Poll { .. } => "poll",
+        Record::Get { limit: 0, .. } | Record::PriorityGet { limit: 0, .. } => "get with limit 0,",
+        Record::Get { .. } | Record::PriorityGet { .. } => "get",
+        Record::Poll { .. } | Record::PriorityPoll { .. } => "poll",
         Record::Release { .. } => "release",
         Record::Cancel { .. } => "cancel",
         Record::Tick => "tick",
@@ -227,6 +231,7 @@ fn fault_name(fault: Fault) -> &'static str {
         Fault::Number(fault) => number_fault_name(fault),
         Fault::Kind => "kind",
         Fault::Limit => "limit field",
+        Fault::Order => "misplaced 8",
     }
 }
 

@@ -1,5 +1,6 @@
 //! Logs with faults, and numbers at the limits of their forms.
 
+use crate::log::{read_record, read_start, write_start, Reading, Start, ORDER};
 use crate::number::write_number;
 use crate::rng::Rng;
 use crate::shapes::mixed;
@@ -23,7 +24,7 @@ pub const BAD_NUMBERS: [&[u8]; 14] = [
 ];
 
 /// Fields in front of a bad number, with the record's kind first.
-const RECORD_STARTS: [&[u8]; 9] = [
+const RECORD_STARTS: [&[u8]; 16] = [
     &[],
     &[0x01],
     &[0x01, 0x02],
@@ -33,29 +34,39 @@ const RECORD_STARTS: [&[u8]; 9] = [
     &[0x03],
     &[0x04],
     &[0x01, 0x21, 0x00],
+    &[0x06],
+    &[0x06, 0x02],
+    &[0x06, 0x02, 0x04],
+    &[0x06, 0x02, 0x04, 0x00],
+    &[0x07],
+    &[0x07, 0x03],
+    &[0x07, 0x03, 0x04],
 ];
 
 const BAD_KINDS: [&[u8]; 11] = [
     &[0x00],
-    &[0x06],
-    &[0x07],
-    &[0x08],
     &[0x09],
+    &[0x0A],
     &[0x7F],
     &[0x80, 0x01],
     &[0x81, 0x01],
+    &[0x86, 0x01],
     &[0x85, 0x00],
+    &[0x88, 0x00],
     &[0xFF],
     &[0x85],
 ];
 
-/// An empty log, pools without records, and one with a single record.
-const SHORT_LOGS: [&[u8]; 5] = [
+/// An empty log, pools with at most one record, and a long form of 8 after N.
+const SHORT_LOGS: [&[u8]; 8] = [
     &[],
     &[0x0C],
     &[0x40],
+    &[0x40, 0x08],
     &[0x80, 0x80, 0x04],
     &[0x80, 0x80, 0x04, 0x05],
+    &[0x80, 0x80, 0x04, 0x08, 0x05],
+    &[0x40, 0x88, 0x00],
 ];
 
 const REFUSED_LENGTHS: [u32; 16] = [
@@ -78,7 +89,7 @@ const REFUSED_LENGTHS: [u32; 16] = [
 ];
 
 /// Count of the ways of making a log with a fault.
-const WAYS: usize = 14;
+const WAYS: usize = 16;
 
 /// Log number `number` of the logs with faults. The ways of making one follow
 /// each other in turn.
@@ -96,6 +107,7 @@ pub fn damaged(rng: Rng, number: usize) -> Vec<u8> {
         10 => bad_length(rng, round),
         11 => changed_byte(rng),
         12 => large_numbers(rng),
+        13 | 14 => misplaced_order(rng, 2 * round + number % 2),
         _ => small_bytes(rng),
     }
 }
@@ -135,8 +147,10 @@ fn bad_number(mut rng: Rng) -> Vec<u8> {
 fn limit_field(mut rng: Rng, field: u32) -> Vec<u8> {
     let mut log = valid(&mut rng);
     let (task, size) = (rng.between(0, 33), rng.between(0, 30));
-    for value in [1, task, size, field] {
-        write_number(&mut log, value);
+    if rng.chance(50) {
+        write_all(&mut log, &[1, task, size, field]);
+    } else {
+        write_all(&mut log, &[6, task, size, field, rng.between(0, 17)]);
     }
     log.extend_from_slice(&[0x05, 0x04, task as u8, 0x05]);
     log
@@ -145,7 +159,14 @@ fn limit_field(mut rng: Rng, field: u32) -> Vec<u8> {
 fn refused_length(mut rng: Rng, round: usize) -> Vec<u8> {
     let mut log = Vec::new();
     write_number(&mut log, REFUSED_LENGTHS[5 * round % REFUSED_LENGTHS.len()]);
-    let tails: [&[u8]; 4] = [&[], &[0x05], &[0x00], &[0x01, 0x01, 0x04, 0x00, 0x80]];
+    let tails: [&[u8]; 6] = [
+        &[],
+        &[0x05],
+        &[0x00],
+        &[0x01, 0x01, 0x04, 0x00, 0x80],
+        &[0x08],
+        &[0x08, 0x08],
+    ];
     log.extend_from_slice(rng.pick(&tails));
     log
 }
@@ -189,12 +210,15 @@ fn large_numbers(mut rng: Rng) -> Vec<u8> {
         let bits = rng.between(1, 32);
         let value = u32::MAX >> (32 - bits);
         let value = value - rng.below(2);
-        match rng.below(5) {
+        match rng.below(8) {
             0 => write_all(&mut log, &[1, value, 4, 0]),
             1 => write_all(&mut log, &[1, 5, value, value.min(1 << 31)]),
             2 => write_all(&mut log, &[2, 5, value]),
             3 => write_all(&mut log, &[3, value]),
-            _ => write_all(&mut log, &[4, value]),
+            4 => write_all(&mut log, &[4, value]),
+            5 => write_all(&mut log, &[6, 5, value, value.min(1 << 31), 9]),
+            6 => write_all(&mut log, &[6, 5, 4, 0, value]),
+            _ => write_all(&mut log, &[7, 5, 4, value]),
         }
     }
     log
@@ -206,13 +230,50 @@ fn write_all(log: &mut Vec<u8>, values: &[u32]) {
     }
 }
 
+/// A log with record 8 at a wrong place: twice after N, behind some record or at
+/// the end, chosen by `number`.
+fn misplaced_order(mut rng: Rng, number: usize) -> Vec<u8> {
+    let log = valid(&mut rng);
+    let places = record_places(&log);
+    match number % 3 {
+        0 => ordered_twice(&log),
+        1 => with_order_at(&log, rng.pick(&places[1..])),
+        _ => with_order_at(&log, log.len()),
+    }
+}
+
+fn ordered_twice(log: &[u8]) -> Vec<u8> {
+    let (start, place) = read_start(log).expect("the log is valid");
+    let mut twice = Vec::new();
+    write_start(&mut twice, Start::by_priority(start.len));
+    write_number(&mut twice, ORDER);
+    twice.extend_from_slice(&log[place..]);
+    twice
+}
+
+fn with_order_at(log: &[u8], place: usize) -> Vec<u8> {
+    let (before, after) = log.split_at(place);
+    [before, &[ORDER as u8], after].concat()
+}
+
+/// Places of the records of a valid log, and its end.
+fn record_places(log: &[u8]) -> Vec<usize> {
+    let (_, mut place) = read_start(log).expect("the log is valid");
+    let mut places = vec![place];
+    while let Reading::Record(_, len) = read_record(&log[place..]) {
+        place += len;
+        places.push(place);
+    }
+    places
+}
+
 /// A pool length, then random bytes that often form records.
 fn small_bytes(mut rng: Rng) -> Vec<u8> {
     let mut log = Vec::new();
     write_number(&mut log, 4 * rng.between(3, 40));
     for _ in 0..rng.between(5, 80) {
         let byte = if rng.chance(90) {
-            rng.between(1, 5) as u8
+            rng.between(1, 8) as u8
         } else {
             rng.byte()
         };

@@ -25,6 +25,7 @@ fn deal_small(rng: Rng, index: u64) -> Vec<u8> {
         6 if index % 24 == 6 => shapes::refused_releases(rng),
         0 | 6 => shapes::mixed(rng),
         1 | 5 | 9 => return damaged(rng, (3 * (index / 12) + index % 12 / 4) as usize),
+        2 if index % 24 == 2 => shapes::probes(rng),
         2 => shapes::tiny(rng),
         3 => shapes::long_queue(rng),
         4 => shapes::many_served(rng),

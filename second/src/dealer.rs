@@ -1,36 +1,95 @@
 //! Builds a log record by record and follows it on a pool, so that requests
 //! can be chosen by the state they meet.
 
-use crate::attributes::Attributes;
+use crate::attributes::{Attributes, BY_PRIORITY, FIFO};
 use crate::codes::E_OK;
 use crate::kinds::Kinds;
-use crate::log::{write_record, Record};
-use crate::number::write_number;
-use crate::pool::{Answer, Pool, FOREVER, MAX_TASK};
+use crate::log::{write_record, write_start, Record, Start};
+use crate::pool::{Answer, Pool, BEST_PRIORITY, FOREVER, LEAST_PRIORITY, MAX_TASK};
+use crate::queue::Order;
 use crate::replay::apply;
 use crate::rng::Rng;
 use crate::runs::HEADER;
 
 const WRONG_TASKS: [u32; 11] = [0, 33, 34, 63, 64, 65, 256, 257, 65_537, 1 << 31, u32::MAX];
 
+/// Some of these are allowed once high bits are cut off.
+const WRONG_PRIORITIES: [u32; 12] = [
+    0,
+    0,
+    17,
+    17,
+    18,
+    32,
+    128,
+    257,
+    65_537,
+    1 << 31,
+    u32::MAX - 15,
+    u32::MAX,
+];
+
 pub struct Dealer {
     pub rng: Rng,
     pub pool: Pool,
     pub log: Vec<u8>,
+    /// Priorities of the gets and polls; without any all are records 1 and 2.
+    priorities: Vec<u32>,
 }
 
 impl Dealer {
-    /// A log on a pool of `len` bytes, an allowed length.
+    /// A log of records 1 to 5 on a FIFO pool of `len` bytes, an allowed length.
     pub fn new(rng: Rng, len: u32) -> Dealer {
         Dealer::with(rng, len, Attributes::default())
     }
 
-    /// A log on a pool with attributes that are allowed for its length.
+    /// The same on a pool with attributes that are allowed for its length.
     pub fn with(rng: Rng, len: u32, attributes: Attributes) -> Dealer {
         let pool = Pool::create(len, attributes).expect("length and attributes are allowed");
         let mut log = Vec::new();
-        write_number(&mut log, len);
-        Dealer { rng, pool, log }
+        let order = attributes.order;
+        write_start(&mut log, Start { len, order });
+        Dealer {
+            rng,
+            pool,
+            log,
+            priorities: Vec::new(),
+        }
+    }
+
+    /// A log on a pool of either order, most often with records 6 and 7 too.
+    pub fn any(rng: Rng, len: u32) -> Dealer {
+        Dealer::any_with(rng, len, Attributes::default())
+    }
+
+    /// The same on a pool with attributes but for their order.
+    pub fn any_with(mut rng: Rng, len: u32, attributes: Attributes) -> Dealer {
+        let (order, prioritized) = match rng.below(16) {
+            0..=3 => (FIFO, false),
+            4..=7 => (FIFO, true),
+            8 => (BY_PRIORITY, false),
+            _ => (BY_PRIORITY, true),
+        };
+        let dealer = Dealer::with(rng, len, attributes.with_order(order));
+        if prioritized {
+            dealer.with_priorities()
+        } else {
+            dealer
+        }
+    }
+
+    /// Adds records 6 and 7, with priorities that are often equal.
+    pub fn with_priorities(mut self) -> Dealer {
+        let (any, other) = (self.any_priority(), self.any_priority());
+        let next = any % LEAST_PRIORITY + 1;
+        self.priorities = match self.rng.below(6) {
+            0 | 1 => (BEST_PRIORITY..=LEAST_PRIORITY).collect(),
+            2 => vec![BEST_PRIORITY, LEAST_PRIORITY],
+            3 => vec![any, next],
+            4 => vec![any, any, other],
+            _ => vec![BEST_PRIORITY, any, other, LEAST_PRIORITY],
+        };
+        self
     }
 
     /// Appends a record and carries it out.
@@ -40,11 +99,42 @@ impl Dealer {
     }
 
     pub fn get(&mut self, task: u32, size: u32, limit: i32) -> Answer {
-        self.put(Record::Get { task, size, limit })
+        match self.priority() {
+            None => self.put(Record::Get { task, size, limit }),
+            Some(priority) => self.get_with_priority(task, size, limit, priority),
+        }
+    }
+
+    /// A get that no later request passes.
+    pub fn get_first(&mut self, task: u32, size: u32, limit: i32) -> Answer {
+        match self.pool.queue().order() {
+            Order::Fifo => self.get(task, size, limit),
+            Order::Priority => self.get_with_priority(task, size, limit, BEST_PRIORITY),
+        }
+    }
+
+    pub fn get_with_priority(&mut self, task: u32, size: u32, limit: i32, priority: u32) -> Answer {
+        self.put(Record::PriorityGet {
+            task,
+            size,
+            limit,
+            priority,
+        })
     }
 
     pub fn poll(&mut self, task: u32, size: u32) -> Answer {
-        self.put(Record::Poll { task, size })
+        match self.priority() {
+            None => self.put(Record::Poll { task, size }),
+            Some(priority) => self.poll_with_priority(task, size, priority),
+        }
+    }
+
+    pub fn poll_with_priority(&mut self, task: u32, size: u32, priority: u32) -> Answer {
+        self.put(Record::PriorityPoll {
+            task,
+            size,
+            priority,
+        })
     }
 
     pub fn release(&mut self, offset: u32) -> Answer {
@@ -82,6 +172,19 @@ impl Dealer {
         self.rng.between(1, MAX_TASK)
     }
 
+    /// Any allowed priority.
+    pub fn any_priority(&mut self) -> u32 {
+        self.rng.between(BEST_PRIORITY, LEAST_PRIORITY)
+    }
+
+    /// The priority of a get or poll; `None` for a record that has none.
+    fn priority(&mut self) -> Option<u32> {
+        if self.priorities.is_empty() || self.rng.chance(20) {
+            return None;
+        }
+        Some(self.rng.pick(&self.priorities))
+    }
+
     pub fn waiting_task(&mut self) -> Option<u32> {
         let place = self.rng.index(self.pool.queue().len());
         self.pool
@@ -89,6 +192,17 @@ impl Dealer {
             .iter()
             .nth(place)
             .map(|waiter| waiter.task)
+    }
+
+    /// The priority of some waiter or one next to it; any if nobody waits.
+    pub fn priority_near_waiter(&mut self) -> u32 {
+        let place = self.rng.index(self.pool.queue().len());
+        let waiter = self.pool.queue().iter().nth(place).copied();
+        let priority = waiter.map_or_else(|| self.any_priority(), |waiter| waiter.priority);
+        let near = self
+            .rng
+            .pick(&[priority - 1, priority, priority, priority + 1]);
+        near.clamp(BEST_PRIORITY, LEAST_PRIORITY)
     }
 
     /// A task that does not wait, if there is one.
@@ -114,6 +228,10 @@ impl Dealer {
 
     pub fn wrong_task(&mut self) -> u32 {
         self.rng.pick(&WRONG_TASKS)
+    }
+
+    pub fn wrong_priority(&mut self) -> u32 {
+        self.rng.pick(&WRONG_PRIORITIES)
     }
 
     pub fn wrong_size(&mut self) -> u32 {
@@ -250,6 +368,9 @@ impl Dealer {
 
     /// Appends a record that is most likely refused.
     fn put_wrong(&mut self) -> Answer {
+        if !self.priorities.is_empty() && self.rng.chance(25) {
+            return self.put_wrong_priority();
+        }
         let (task, size, limit) = (self.any_task(), self.size(), self.limit());
         let (wrong_task, wrong_size) = (self.wrong_task(), self.wrong_size());
         let waiting = self.waiting_task().unwrap_or(task);
@@ -266,6 +387,21 @@ impl Dealer {
             8 => self.poll(waiting, size),
             9 => self.cancel(task),
             _ => self.release(offset),
+        }
+    }
+
+    /// Appends a get or poll of a wrong priority by any task, also by one that
+    /// waits or is wrong.
+    fn put_wrong_priority(&mut self) -> Answer {
+        let (any, wrong) = (self.any_task(), self.wrong_task());
+        let waiting = self.waiting_task().unwrap_or(any);
+        let task = self.rng.pick(&[any, any, waiting, waiting, wrong]);
+        let (size, limit) = (self.size(), self.limit());
+        let priority = self.wrong_priority();
+        match self.rng.below(3) {
+            0 => self.poll_with_priority(task, size, priority),
+            1 => self.get_with_priority(task, size, 0, priority),
+            _ => self.get_with_priority(task, size, limit, priority),
         }
     }
 

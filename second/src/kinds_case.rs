@@ -1,6 +1,7 @@
-//! Cases of pools with kinds: the choice and M as numbers, then a log.
+//! Cases of pools with kinds: the choice and M as numbers, then a log, which
+//! has the order.
 
-use crate::attributes::Attributes;
+use crate::attributes::{Attributes, FIFO};
 use crate::number::{read_number, write_number};
 use crate::replay::{text_on, MAX_LOG};
 
@@ -8,12 +9,17 @@ use crate::replay::{text_on, MAX_LOG};
 pub const MAX_CASE: usize = 2 * 5 + MAX_LOG;
 
 /// Reads choice and M, and answers them with the log behind them. `None` if one
-/// of the numbers is refused or cut off.
+/// of the numbers is refused or cut off. The order is left FIFO.
 pub fn read_case(case: &[u8]) -> Option<(Attributes, &[u8])> {
     let (kinds, len) = read_number(case).ok()?;
     let rest = &case[len..];
     let (greatest, len) = read_number(rest).ok()?;
-    Some((Attributes { kinds, greatest }, &rest[len..]))
+    let attributes = Attributes {
+        kinds,
+        greatest,
+        order: FIFO,
+    };
+    Some((attributes, &rest[len..]))
 }
 
 /// The case of a log on a pool with these attributes.

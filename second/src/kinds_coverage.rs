@@ -111,10 +111,7 @@ fn granted_by(before: &Queue, record: Record, answer: &Answer) -> Vec<Granted> {
 
 /// The size that a get or poll asks.
 fn size_of(record: Record) -> Option<u32> {
-    match record {
-        Record::Get { size, .. } | Record::Poll { size, .. } => Some(size),
-        _ => None,
-    }
+    record.asked().map(|asked| asked.size)
 }
 
 fn sort_name(pool: &Pool) -> String {
@@ -125,7 +122,10 @@ fn sort_name(pool: &Pool) -> String {
 }
 
 /// Why create refuses a pool.
-fn refusal_name(len: u32, Attributes { kinds, greatest }: Attributes) -> &'static str {
+fn refusal_name(len: u32, attributes: Attributes) -> &'static str {
+    let Attributes {
+        kinds, greatest, ..
+    } = attributes;
     if Pool::create(len, Attributes::default()).is_err() {
         return "N";
     }

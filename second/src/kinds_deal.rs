@@ -1,7 +1,7 @@
 //! Deals cases of pools with kinds: case number `index` of a seed is the same
 //! for every count.
 
-use crate::attributes::{Attributes, WITHOUT_KINDS, WITH_KINDS};
+use crate::attributes::{Attributes, FIFO, WITHOUT_KINDS, WITH_KINDS};
 use crate::damage::BAD_NUMBERS;
 use crate::deal::deal;
 use crate::dealer::Dealer;
@@ -41,7 +41,8 @@ fn deal_small(rng: Rng, seed: u64, index: u64) -> Vec<u8> {
         3 => played(tight_pool(rng, 5), many_served),
         4 => played(tight_pool(rng, 1), shapes::many_timeouts_on),
         5 => played(tight_pool(rng, 1), shapes::cancels_on),
-        7 | 11 => played(any_pool(rng), full_with_queue),
+        7 => played(any_pool(rng), full_with_queue),
+        11 => played(tight_pool(rng, 2), shapes::probes_on),
         8 => refused(rng),
         9 => damaged(rng),
         _ => any_log(rng, &deal(seed, index / 12)),
@@ -89,7 +90,7 @@ pub fn any_pool(mut rng: Rng) -> Dealer {
         }
     }
     let len = (len + rng.pick(&RESTS)).min(MAX_LEN);
-    Dealer::with(rng, len, attributes)
+    Dealer::any_with(rng, len, attributes)
 }
 
 /// A pool that a block of the top kind fills. The number of this kind is at
@@ -97,13 +98,13 @@ pub fn any_pool(mut rng: Rng) -> Dealer {
 fn tight_pool(mut rng: Rng, lowest: u32) -> Dealer {
     let (attributes, kinds) = any_kinds(&mut rng, lowest);
     let len = kinds.top() + HEADER + rng.pick(&RESTS[..3]);
-    Dealer::with(rng, len, attributes)
+    Dealer::any_with(rng, len, attributes)
 }
 
 /// A pool of 65,536 bytes whose M is at least 37.
 fn large_pool(mut rng: Rng) -> Dealer {
     let (attributes, _) = any_kinds(&mut rng, 3);
-    Dealer::with(rng, MAX_LEN, attributes)
+    Dealer::any_with(rng, MAX_LEN, attributes)
 }
 
 fn many_records(dealer: &mut Dealer) {
@@ -164,8 +165,8 @@ fn any_number(rng: &mut Rng) -> u32 {
     rng.below(u32::MAX) >> rng.below(32)
 }
 
-/// A log on a pool without kinds, and in front of it attributes that create
-/// refuses or any numbers.
+/// A log on a pool without kinds, and in front of it a choice and an M that
+/// create refuses, or any numbers.
 fn refused(mut rng: Rng) -> Vec<u8> {
     let number = rng.between(2, MAX_NUMBER);
     let top = SIZES[number as usize - 1];
@@ -178,9 +179,14 @@ fn refused(mut rng: Rng) -> Vec<u8> {
         4..=6 => (WITH_KINDS, any_greatest(&mut rng, number)),
         _ => (rng.below(3), any_number(&mut rng)),
     };
-    let mut dealer = Dealer::new(rng, len);
+    let mut dealer = Dealer::any(rng, len);
     dealer.put_many(10);
-    case_bytes(Attributes { kinds, greatest }, &dealer.log)
+    let attributes = Attributes {
+        kinds,
+        greatest,
+        order: FIFO,
+    };
+    case_bytes(attributes, &dealer.log)
 }
 
 /// A case whose choice or M is refused, cut off or changed.

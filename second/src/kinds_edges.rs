@@ -1,11 +1,11 @@
 //! Fixed cases at the limits of pools with kinds.
 
-use crate::attributes::{Attributes, WITHOUT_KINDS};
+use crate::attributes::{Attributes, BY_PRIORITY, FIFO, WITHOUT_KINDS};
 use crate::damage::BAD_NUMBERS;
 use crate::dealer::Dealer;
 use crate::kinds::{Kinds, SIZES};
 use crate::kinds_case::case_bytes;
-use crate::log::{log_bytes, Record};
+use crate::log::{log_bytes, Record, Start};
 use crate::pool::{Pool, FOREVER, MAX_LEN, MAX_TASK};
 use crate::replay::MAX_LOG;
 use crate::rng::Rng;
@@ -19,6 +19,7 @@ pub fn edge_cases() -> Vec<Vec<u8>> {
     [
         greatest_requests(),
         other_choices(),
+        by_priority(),
         bad_prefixes(),
         short_cases(),
         long_logs(),
@@ -56,8 +57,25 @@ fn other_choices() -> Vec<Vec<u8>> {
     for kinds in [WITHOUT_KINDS, 2, 3, 128, 257, u32::MAX] {
         for greatest in [0, 1, 12, 256, 49_140, u32::MAX] {
             for len in [20, 64, 380, MAX_LEN] {
-                cases.push(case(Attributes { kinds, greatest }, len));
+                let attributes = Attributes {
+                    kinds,
+                    greatest,
+                    order: FIFO,
+                };
+                cases.push(case(attributes, len));
             }
+        }
+    }
+    cases
+}
+
+/// Priority pools with several M and without kinds, created and refused.
+fn by_priority() -> Vec<Vec<u8>> {
+    let with_kinds = [0, 12, 36, 256, 756, 49_140].map(Attributes::with_kinds);
+    let mut cases = Vec::new();
+    for attributes in with_kinds.into_iter().chain([Attributes::default()]) {
+        for len in [8, 20, 44, 92, 380, 764, MAX_LEN] {
+            cases.push(case(attributes.with_order(BY_PRIORITY), len));
         }
     }
     cases
@@ -78,9 +96,9 @@ fn bad_prefixes() -> Vec<Vec<u8>> {
     cases
 }
 
-/// Cases that end in front of M or of N, or directly behind N.
+/// Cases that end in front of M or of N, directly behind N, or soon after it.
 fn short_cases() -> Vec<Vec<u8>> {
-    let cases: [&[u8]; 8] = [
+    let cases: [&[u8]; 12] = [
         &[],
         &[0x00],
         &[0x01],
@@ -89,6 +107,10 @@ fn short_cases() -> Vec<Vec<u8>> {
         &[0x01, 0x0C],
         &[0x01, 0x0C, 0x40],
         &[0x01, 0x00, 0x80],
+        &[0x01, 0x0C, 0x40, 0x08],
+        &[0x01, 0x0C, 0x40, 0x08, 0x08],
+        &[0x01, 0x0C, 0x40, 0x05, 0x08],
+        &[0x01, 0x00, 0x40, 0x08],
     ];
     cases.map(<[u8]>::to_vec).to_vec()
 }
@@ -106,6 +128,7 @@ fn long_logs() -> Vec<Vec<u8>> {
         let largest = Attributes {
             kinds: u32::MAX,
             greatest: u32::MAX,
+            order: FIFO,
         };
         cases.push(case_bytes(largest, &log));
         cases.push([&[0x80, 0x00], &log[..]].concat());
@@ -127,10 +150,15 @@ fn case(attributes: Attributes, len: u32) -> Vec<u8> {
 /// Requests of every size next to a limit, if the pool is created.
 fn edge_log(len: u32, attributes: Attributes) -> Vec<u8> {
     let Ok(pool) = Pool::create(len, attributes) else {
-        return log_bytes(len, &[Record::Poll { task: 1, size: 1 }, Record::Tick]);
+        let order = attributes.order;
+        let records = [Record::Poll { task: 1, size: 1 }, Record::Tick];
+        return log_bytes(Start { len, order }, &records);
     };
     let sizes = edge_sizes(&pool);
     let mut dealer = Dealer::with(Rng::new(0, 0), len, attributes);
+    if attributes.order == BY_PRIORITY {
+        dealer = dealer.with_priorities();
+    }
     for &size in &sizes {
         try_size(&mut dealer, size);
     }

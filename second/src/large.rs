@@ -7,7 +7,7 @@ use crate::rng::Rng;
 use crate::shapes::mixed;
 
 /// The longest record a dealer appends.
-pub const LONGEST_RECORD: usize = 16;
+const LONGEST_RECORD: usize = 21;
 
 /// The order in which a full pool's blocks are released.
 #[derive(Clone, Copy)]
@@ -28,7 +28,7 @@ const ORDERS: [Order; 4] = [
 /// A pool of 65,536 bytes filled with thousands of blocks, a long queue, and
 /// the release of the blocks in one of four orders, chosen by `round`.
 pub fn full_pool(rng: Rng, round: usize) -> Dealer {
-    let mut dealer = Dealer::new(rng, MAX_LEN);
+    let mut dealer = Dealer::any(rng, MAX_LEN);
     full_pool_on(&mut dealer, round);
     dealer
 }
@@ -77,7 +77,7 @@ fn put_request(dealer: &mut Dealer) {
 /// the pool length.
 pub fn near_limit(rng: Rng, round: usize) -> Dealer {
     let len = [MAX_LEN, 4_096, 16_384, 65_532, 64][round % 5];
-    let mut dealer = Dealer::new(rng, len);
+    let mut dealer = Dealer::any(rng, len);
     near_limit_on(&mut dealer, round);
     dealer
 }

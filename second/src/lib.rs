@@ -22,6 +22,7 @@ pub mod large;
 pub mod log;
 pub mod number;
 pub mod pool;
+pub mod priority_coverage;
 pub mod process;
 pub mod queue;
 pub mod replay;

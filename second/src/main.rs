@@ -31,7 +31,7 @@ const USAGE: &str = "usage:
   second compare-kinds PROGRAM SEED COUNT [LOG_FILE..]
   second compare-write PROGRAM SEED COUNT [LOG_FILE..]
   second check FOLDER [PROGRAM]
-  second workload full|small|waiters|mixed
+  second workload full|small|waiters|mixed|priorities
   second workload ticks BLOCKS WAITERS TICKS
   second time COUNT LOG_FILE \"PROGRAM [ARGUMENT..]\"..
 ";

@@ -14,6 +14,9 @@ pub const MAX_LEN: u32 = 65_536;
 pub const FOREVER: i32 = -1;
 /// Limit that makes a get a poll.
 pub const POLLING: i32 = 0;
+/// The best and the least priority.
+pub const BEST_PRIORITY: u32 = 1;
+pub const LEAST_PRIORITY: u32 = 16;
 
 /// A task whose wait ended during a call.
 #[derive(Clone, Copy, Debug, PartialEq, Eq)]
@@ -102,7 +105,7 @@ impl Pool {
             attributes,
             kinds: attributes.kinds_in_use(len)?,
             runs: Runs::new(len),
-            queue: Queue::default(),
+            queue: Queue::new(attributes.queue_order()?),
         })
     }
 
@@ -140,13 +143,24 @@ impl Pool {
         }
     }
 
+    /// True if some free run fits a size that a task may ask.
+    pub fn fits(&self, size: u32) -> bool {
+        let need = self.need(size);
+        self.runs.free().any(|run| run.len >= need)
+    }
+
+    /// Asks for a block with the least priority.
+    pub fn get(&mut self, task: u32, size: u32, limit: i32) -> Answer {
+        self.get_with_priority(task, size, limit, LEAST_PRIORITY)
+    }
+
     /// Asks for a block. A limit of -1 waits without end, 0 polls, and n ends
     /// the wait in tick n + 1 after the call.
-    pub fn get(&mut self, task: u32, size: u32, limit: i32) -> Answer {
-        if let Err(code) = self.test_request(task, size, limit) {
+    pub fn get_with_priority(&mut self, task: u32, size: u32, limit: i32, priority: u32) -> Answer {
+        if let Err(code) = self.test_request(task, size, limit, priority) {
             return Answer::code(code);
         }
-        if self.queue.is_empty() {
+        if !self.queue.holds_back(priority) {
             if let Some(offset) = self.grant(task, size) {
                 return Answer::granted(offset);
             }
@@ -157,14 +171,20 @@ impl Pool {
         self.queue.join(Waiter {
             task,
             size,
+            priority,
             left: ticks(limit),
         });
         Answer::code(WAITING)
     }
 
-    /// Asks for a block without waiting.
+    /// Asks for a block with the least priority, without waiting.
     pub fn poll(&mut self, task: u32, size: u32) -> Answer {
-        self.get(task, size, POLLING)
+        self.poll_with_priority(task, size, LEAST_PRIORITY)
+    }
+
+    /// Asks for a block without waiting.
+    pub fn poll_with_priority(&mut self, task: u32, size: u32, priority: u32) -> Answer {
+        self.get_with_priority(task, size, POLLING, priority)
     }
 
     /// Frees the block at `offset`.
@@ -212,11 +232,11 @@ impl Pool {
     }
 
     /// The tests of get and poll, in the order of the codes.
-    fn test_request(&self, task: u32, size: u32, limit: i32) -> Result<(), i32> {
+    fn test_request(&self, task: u32, size: u32, limit: i32, priority: u32) -> Result<(), i32> {
         if !is_task(task) {
             return Err(E_ID);
         }
-        if size == 0 || size > self.max_size() || limit < FOREVER {
+        if size == 0 || size > self.max_size() || limit < FOREVER || !is_priority(priority) {
             return Err(E_PAR);
         }
         if self.queue.contains(task) {
@@ -263,6 +283,10 @@ impl Pool {
 
 fn is_task(task: u32) -> bool {
     (1..=MAX_TASK).contains(&task)
+}
+
+fn is_priority(priority: u32) -> bool {
+    (BEST_PRIORITY..=LEAST_PRIORITY).contains(&priority)
 }
 
 /// Ticks an entry starts with, one more than the limit; a negative limit has

@@ -1,6 +1,15 @@
-//! The waiting queue, first come first served.
+//! The waiting queue, in one of two orders.
 
 use std::collections::VecDeque;
+
+/// The order in which requests wait.
+#[derive(Clone, Copy, Debug, PartialEq, Eq)]
+pub enum Order {
+    /// First come, first served.
+    Fifo,
+    /// The best priority first, and first come, first served among equals.
+    Priority,
+}
 
 /// A waiting request.
 #[derive(Clone, Copy, Debug, PartialEq, Eq)]
@@ -8,17 +17,32 @@ pub struct Waiter {
     pub task: u32,
     /// Size as asked.
     pub size: u32,
+    /// 1 to 16, 1 best; without effect in a FIFO queue.
+    pub priority: u32,
     /// Ticks left, 1 to 2^31, or `None` for a wait without limit.
     pub left: Option<u32>,
 }
 
 /// Waiting requests, head first, at most one per task.
-#[derive(Clone, Debug, Default, PartialEq, Eq)]
+#[derive(Clone, Debug, PartialEq, Eq)]
 pub struct Queue {
+    order: Order,
     waiters: VecDeque<Waiter>,
 }
 
 impl Queue {
+    /// An empty queue.
+    pub fn new(order: Order) -> Queue {
+        Queue {
+            order,
+            waiters: VecDeque::new(),
+        }
+    }
+
+    pub fn order(&self) -> Order {
+        self.order
+    }
+
     pub fn len(&self) -> usize {
         self.waiters.len()
     }
@@ -44,9 +68,31 @@ impl Queue {
         self.place(task).is_some()
     }
 
-    /// Puts a request at the tail.
+    /// True if a request of this priority must wait though a run fits: some
+    /// waiter comes before it.
+    pub fn holds_back(&self, priority: u32) -> bool {
+        self.waiters
+            .iter()
+            .any(|waiter| self.comes_before(waiter, priority))
+    }
+
+    /// Puts a request behind all waiters that come before it.
     pub fn join(&mut self, waiter: Waiter) {
-        self.waiters.push_back(waiter);
+        let last = self
+            .waiters
+            .iter()
+            .rposition(|other| self.comes_before(other, waiter.priority));
+        let place = last.map_or(0, |last| last + 1);
+        self.waiters.insert(place, waiter);
+    }
+
+    /// True if a waiter comes before a newcomer of this priority: in a FIFO
+    /// queue always, else if its own is better or equal.
+    fn comes_before(&self, waiter: &Waiter, priority: u32) -> bool {
+        match self.order {
+            Order::Fifo => true,
+            Order::Priority => waiter.priority <= priority,
+        }
     }
 
     pub fn pop_head(&mut self) -> Option<Waiter> {

@@ -3,8 +3,8 @@
 use std::fmt::Write;
 
 use crate::attributes::Attributes;
-use crate::log::{read_record, Fault, Reading, Record};
-use crate::number::{read_number, NumberFault};
+use crate::log::{read_record, read_start, Fault, Reading, Record};
+use crate::number::NumberFault;
 use crate::pool::{Answer, Pool};
 
 /// The greatest length of a log.
@@ -41,13 +41,15 @@ pub struct Replay<'a> {
 }
 
 impl<'a> Replay<'a> {
-    /// Reads the pool length and creates the pool.
+    /// Reads the start of the log and creates the pool. Its order is that of
+    /// the log.
     pub fn start(attributes: Attributes, log: &'a [u8]) -> Result<Replay<'a>, StartFault> {
         if log.len() > MAX_LOG {
             return Err(StartFault::TooLong);
         }
-        let (len, place) = read_number(log).map_err(StartFault::BadLength)?;
-        let pool = Pool::create(len, attributes).map_err(StartFault::Refused)?;
+        let (start, place) = read_start(log).map_err(StartFault::BadLength)?;
+        let attributes = attributes.with_order(start.order);
+        let pool = Pool::create(start.len, attributes).map_err(StartFault::Refused)?;
         Ok(Replay { log, place, pool })
     }
 
@@ -76,6 +78,17 @@ pub fn apply(pool: &mut Pool, record: Record) -> Answer {
         Record::Release { offset } => pool.release(offset),
         Record::Cancel { task } => pool.cancel(task),
         Record::Tick => pool.tick(),
+        Record::PriorityGet {
+            task,
+            size,
+            limit,
+            priority,
+        } => pool.get_with_priority(task, size, limit, priority),
+        Record::PriorityPoll {
+            task,
+            size,
+            priority,
+        } => pool.poll_with_priority(task, size, priority),
     }
 }
 
@@ -84,7 +97,8 @@ pub fn replay_text(log: &[u8]) -> String {
     text_on(Attributes::default(), log)
 }
 
-/// The whole text a log gives on a pool with these attributes.
+/// The whole text a log gives on a pool with these attributes and the log's
+/// order.
 pub fn text_on(attributes: Attributes, log: &[u8]) -> String {
     let mut replay = match Replay::start(attributes, log) {
         Ok(replay) => replay,

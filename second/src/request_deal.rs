@@ -1,10 +1,14 @@
 //! Deals requests to write a log: request number `index` of a seed is the same
 //! for every count.
 
-use crate::log::{log_bytes, Record, CANCEL, GET, MAX_LIMIT_FIELD, POLL, RELEASE, TICK};
+use crate::attributes::{BY_PRIORITY, FIFO};
+use crate::log::{
+    log_bytes, Record, Start, CANCEL, GET, MAX_LIMIT_FIELD, POLL, PRIORITY_GET, PRIORITY_POLL,
+    RELEASE, TICK,
+};
 use crate::request::{Request, MAX_BUFFER, MAX_COLUMN};
 use crate::rng::Rng;
-use crate::writer::{Columns, Row};
+use crate::writer::{Columns, Row, COLUMNS};
 
 /// The least and the greatest number of each length, and 2^31.
 const NUMBERS: [u32; 12] = [
@@ -23,7 +27,23 @@ const NUMBERS: [u32; 12] = [
 ];
 
 /// Some of these are known once high bits are cut off.
-const UNKNOWN_KINDS: [u32; 9] = [0, 6, 7, 128, 129, 257, 65_537, (1 << 31) + 1, u32::MAX];
+const UNKNOWN_KINDS: [u32; 11] = [
+    0,
+    8,
+    8,
+    9,
+    128,
+    134,
+    257,
+    263,
+    65_537,
+    (1 << 31) + 1,
+    u32::MAX,
+];
+
+/// Orders that the writer refuses, some of which are known once high bits are
+/// cut off.
+const UNKNOWN_ORDERS: [u32; 7] = [2, 3, 8, 256, 257, 1 << 31, u32::MAX];
 
 /// Counts of records around the greatest.
 const LARGE_COUNTS: [u32; 4] = [4_095, 4_096, 4_097, 4_100];
@@ -33,14 +53,27 @@ pub fn deal_request(seed: u64, index: u64) -> Request {
     let mut rng = Rng::new(seed, index);
     let count = any_count(&mut rng);
     let records: Vec<Record> = (0..count).map(|_| any_record(&mut rng)).collect();
-    let pool_len = any_number(&mut rng);
-    let buffer_len = any_buffer(&mut rng, log_bytes(pool_len, &records).len());
+    let start = any_start(&mut rng);
+    let buffer_len = any_buffer(&mut rng, log_bytes(start, &records).len());
     let mut columns = columns_of(&mut rng, &records);
     spoil(&mut rng, &mut columns);
     Request {
         buffer_len,
-        pool_len,
+        start,
         columns,
+    }
+}
+
+/// Any N, and most often a known order.
+fn any_start(rng: &mut Rng) -> Start {
+    let order = if rng.chance(6) {
+        rng.pick(&UNKNOWN_ORDERS)
+    } else {
+        rng.pick(&[FIFO, BY_PRIORITY])
+    };
+    Start {
+        len: any_number(rng),
+        order,
     }
 }
 
@@ -62,20 +95,37 @@ fn any_number(rng: &mut Rng) -> u32 {
 }
 
 fn any_record(rng: &mut Rng) -> Record {
-    let (first, second) = (any_number(rng), any_number(rng));
-    match rng.between(GET, TICK) {
+    let (task, size) = (any_number(rng), any_number(rng));
+    match rng.between(GET, PRIORITY_POLL) {
         GET => Record::Get {
-            task: first,
-            size: second,
+            task,
+            size,
             limit: any_limit(rng),
         },
-        POLL => Record::Poll {
-            task: first,
-            size: second,
+        POLL => Record::Poll { task, size },
+        RELEASE => Record::Release { offset: task },
+        CANCEL => Record::Cancel { task },
+        TICK => Record::Tick,
+        PRIORITY_GET => Record::PriorityGet {
+            task,
+            size,
+            limit: any_limit(rng),
+            priority: any_priority(rng),
         },
-        RELEASE => Record::Release { offset: first },
-        CANCEL => Record::Cancel { task: first },
-        _ => Record::Tick,
+        _ => Record::PriorityPoll {
+            task,
+            size,
+            priority: any_priority(rng),
+        },
+    }
+}
+
+/// A priority, which the writer does not judge.
+fn any_priority(rng: &mut Rng) -> u32 {
+    if rng.chance(50) {
+        rng.between(0, 17)
+    } else {
+        any_number(rng)
     }
 }
 
@@ -116,18 +166,29 @@ pub fn columns_of(rng: &mut Rng, records: &[Record]) -> Columns {
 }
 
 fn row_of(rng: &mut Rng, record: Record) -> Row {
-    let (first, second) = (any_number(rng), any_number(rng));
+    let (first, second, other) = (any_number(rng), any_number(rng), any_priority(rng));
     let junk = if rng.chance(50) {
         low_limit(rng)
     } else {
         any_number(rng) as i32
     };
     match record {
-        Record::Get { task, size, limit } => (GET, task, size, limit),
-        Record::Poll { task, size } => (POLL, task, size, junk),
-        Record::Release { offset } => (RELEASE, offset, second, junk),
-        Record::Cancel { task } => (CANCEL, task, second, junk),
-        Record::Tick => (TICK, first, second, junk),
+        Record::Get { task, size, limit } => (GET, task, size, limit, other),
+        Record::Poll { task, size } => (POLL, task, size, junk, other),
+        Record::Release { offset } => (RELEASE, offset, second, junk, other),
+        Record::Cancel { task } => (CANCEL, task, second, junk, other),
+        Record::Tick => (TICK, first, second, junk, other),
+        Record::PriorityGet {
+            task,
+            size,
+            limit,
+            priority,
+        } => (PRIORITY_GET, task, size, limit, priority),
+        Record::PriorityPoll {
+            task,
+            size,
+            priority,
+        } => (PRIORITY_POLL, task, size, junk, priority),
     }
 }
 
@@ -137,7 +198,7 @@ fn spoil(rng: &mut Rng, columns: &mut Columns) {
     match (rng.below(10), place) {
         (0, Some(place)) => columns.kinds[place] = rng.pick(&UNKNOWN_KINDS),
         (1, Some(place)) => {
-            columns.kinds[place] = GET;
+            columns.kinds[place] = rng.pick(&[GET, PRIORITY_GET]);
             columns.limits[place] = low_limit(rng);
         }
         (2, _) => change_length(rng, columns),
@@ -156,5 +217,5 @@ fn any_place(rng: &mut Rng, count: usize) -> Option<usize> {
 fn change_length(rng: &mut Rng, columns: &mut Columns) {
     let len = columns.kinds.len();
     let lens = [0, len.saturating_sub(1), (len + 1).min(MAX_COLUMN)];
-    columns.resize(rng.index(4), rng.pick(&lens));
+    columns.resize(rng.index(COLUMNS), rng.pick(&lens));
 }

@@ -1,6 +1,8 @@
 //! Small valid logs, each made to reach certain states. A shape that ends in
 //! `_on` takes a dealer with a fresh pool of any sort.
 
+use crate::attributes::Attributes;
+use crate::codes::E_OK;
 use crate::dealer::Dealer;
 use crate::pool::{FOREVER, MAX_TASK, POLLING};
 use crate::rng::Rng;
@@ -19,7 +21,7 @@ pub fn mixed(mut rng: Rng) -> Dealer {
         _ => rng.pick(&[12, 65_532, 65_536]),
     };
     let count = rng.between(1, 120);
-    let mut dealer = Dealer::new(rng, len);
+    let mut dealer = Dealer::any(rng, len);
     dealer.put_many(count);
     dealer
 }
@@ -28,7 +30,7 @@ pub fn mixed(mut rng: Rng) -> Dealer {
 pub fn tiny(mut rng: Rng) -> Dealer {
     let len = rng.pick(&[12, 12, 16, 20, 24, 28, 32, 36]);
     let count = rng.between(4, 60);
-    let mut dealer = Dealer::new(rng, len);
+    let mut dealer = Dealer::any(rng, len);
     dealer.put_many(count);
     dealer
 }
@@ -37,7 +39,7 @@ pub fn tiny(mut rng: Rng) -> Dealer {
 pub fn refused_releases(mut rng: Rng) -> Dealer {
     let len = length(&mut rng, 12, 400);
     let rounds = rng.between(10, 40);
-    let mut dealer = Dealer::new(rng, len);
+    let mut dealer = Dealer::any(rng, len);
     for _ in 0..rounds {
         dealer.put_many(3);
         for _ in 0..3 {
@@ -53,7 +55,7 @@ pub fn refused_releases(mut rng: Rng) -> Dealer {
 /// pool and in front of a live block.
 pub fn rests(mut rng: Rng) -> Dealer {
     let len = length(&mut rng, 100, 400);
-    let mut dealer = Dealer::new(rng, len);
+    let mut dealer = Dealer::any(rng, len);
     for rest in [0, 4, 8, 12, 16] {
         rest_at_end(&mut dealer, rest);
         rest_before_block(&mut dealer, rest);
@@ -93,7 +95,7 @@ fn rest_before_block(dealer: &mut Dealer, rest: u32) {
 /// happen, with polls of the exact room in between.
 pub fn joins(mut rng: Rng) -> Dealer {
     let len = length(&mut rng, 60, 900);
-    let mut dealer = Dealer::new(rng, len);
+    let mut dealer = Dealer::any(rng, len);
     joins_on(&mut dealer, |dealer| dealer.rng.between(1, 30));
     dealer
 }
@@ -120,7 +122,7 @@ pub fn joins_on(dealer: &mut Dealer, any_size: fn(&mut Dealer) -> u32) {
 /// A queue of 31 or 32 waiters, then records of every kind.
 pub fn long_queue(mut rng: Rng) -> Dealer {
     let len = length(&mut rng, 24, 2_048);
-    let mut dealer = Dealer::new(rng, len);
+    let mut dealer = Dealer::any(rng, len);
     long_queue_on(&mut dealer);
     dealer
 }
@@ -148,7 +150,7 @@ pub fn long_queue_on(dealer: &mut Dealer) {
 pub fn many_served(mut rng: Rng) -> Dealer {
     let waiters = rng.pick(&[2, 5, 16, 30, 31, 31]);
     let len = length(&mut rng, 32 * 24, 4_096);
-    let mut dealer = Dealer::new(rng, len);
+    let mut dealer = Dealer::any(rng, len);
     many_served_on(&mut dealer, waiters);
     dealer
 }
@@ -166,7 +168,7 @@ pub fn many_served_on(dealer: &mut Dealer, waiters: usize) {
         .get(tasks[0], if way == 0 { whole } else { first }, FOREVER)
         .offset;
     let head_size = if way == 0 { small } else { whole };
-    dealer.get(tasks[0], head_size, limit);
+    dealer.get_first(tasks[0], head_size, limit);
     for &task in &tasks[1..=waiters] {
         let size = dealer.rng.between(1, small);
         dealer.get(task, size, FOREVER);
@@ -187,7 +189,7 @@ pub fn many_served_on(dealer: &mut Dealer, waiters: usize) {
 /// last tick comes after the end of the longest wait.
 pub fn many_timeouts(mut rng: Rng) -> Dealer {
     let len = length(&mut rng, 64, 1_024);
-    let mut dealer = Dealer::new(rng, len);
+    let mut dealer = Dealer::any(rng, len);
     many_timeouts_on(&mut dealer);
     dealer
 }
@@ -200,7 +202,7 @@ pub fn many_timeouts_on(dealer: &mut Dealer) {
     let (whole, longest) = (dealer.pool.max_size(), dealer.rng.between(1, 4));
     let waiters = dealer.rng.between(2, MAX_TASK) as usize;
     let unlimited = dealer.rng.pick(&[0, 20]);
-    dealer.get(tasks[0], whole, 1);
+    dealer.get_first(tasks[0], whole, 1);
     for &task in &tasks[1..waiters] {
         let size = if dealer.rng.chance(30) {
             whole
@@ -225,7 +227,7 @@ pub fn many_timeouts_on(dealer: &mut Dealer) {
 /// A wait of several dozen ticks that ends neither early nor late: the last
 /// tick comes after its end.
 pub fn long_wait(rng: Rng) -> Dealer {
-    let mut dealer = Dealer::new(rng, 64);
+    let mut dealer = Dealer::any(rng, 64);
     let limit = dealer.rng.between(2, 150);
     let refused = dealer.rng.pick(&[0, 50]);
     dealer.get(1, 56, FOREVER);
@@ -264,7 +266,7 @@ pub fn same_end(mut rng: Rng) -> Dealer {
     } else {
         rng.between(2, MAX_TASK)
     };
-    let mut dealer = Dealer::new(rng, 64);
+    let mut dealer = Dealer::any(rng, 64);
     let refused = dealer.rng.pick(&[0, 50]);
     dealer.get(1, 56, FOREVER);
     for limit in (1..=longest).rev() {
@@ -284,7 +286,7 @@ pub fn same_end(mut rng: Rng) -> Dealer {
 /// Cancels at each place of a queue; every cancelled task asks again.
 pub fn cancels(mut rng: Rng) -> Dealer {
     let len = length(&mut rng, 16, 512);
-    let mut dealer = Dealer::new(rng, len);
+    let mut dealer = Dealer::any(rng, len);
     cancels_on(&mut dealer);
     dealer
 }
@@ -318,4 +320,46 @@ pub fn cancels_on(dealer: &mut Dealer) {
         dealer.get(task, size, limit);
     }
     dealer.put_many(15);
+}
+
+/// A priority pool with room for small requests and a queue of large ones.
+pub fn probes(mut rng: Rng) -> Dealer {
+    let len = length(&mut rng, 64, 512);
+    let mut dealer = Dealer::with(rng, len, Attributes::by_priority()).with_priorities();
+    probes_on(&mut dealer);
+    dealer
+}
+
+/// The same where one block can fill the pool.
+pub fn probes_on(dealer: &mut Dealer) {
+    let (task, whole) = (dealer.any_task(), dealer.pool.max_size());
+    dealer.get(task, 1, FOREVER);
+    for _ in 0..dealer.rng.between(10, 40) {
+        let (waiter, limit) = (dealer.idle_task(), dealer.limit());
+        if let Some(task) = waiter.filter(|_| dealer.rng.chance(60)) {
+            dealer.get(task, whole, limit);
+        }
+        put_probe(dealer);
+        if dealer.rng.chance(20) {
+            dealer.put_any();
+        }
+    }
+}
+
+/// A small get or poll with a priority near that of some waiter. A block that
+/// it is granted is most often released at once.
+fn put_probe(dealer: &mut Dealer) {
+    let Some(task) = dealer.idle_task() else {
+        return;
+    };
+    let size = dealer.rng.between(1, 12).min(dealer.pool.max_size());
+    let priority = dealer.priority_near_waiter();
+    let answer = if dealer.rng.chance(50) {
+        dealer.poll_with_priority(task, size, priority)
+    } else {
+        dealer.get_with_priority(task, size, FOREVER, priority)
+    };
+    if answer.code == E_OK && dealer.rng.chance(80) {
+        dealer.release(answer.offset);
+    }
 }

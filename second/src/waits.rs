@@ -60,8 +60,8 @@ impl Waits {
         let ended = woken
             .map(|woken| (self.remove(woken.task), woken.code))
             .collect();
-        if let (Record::Get { task, limit, .. }, WAITING) = (record, answer.code) {
-            self.list.push(Wait::new(task, limit));
+        if let (Some(asked), WAITING) = (record.asked(), answer.code) {
+            self.list.push(Wait::new(asked.task, asked.limit));
         }
         ended
     }

@@ -1,20 +1,23 @@
 //! Logs of nearly the greatest length that are run for their time.
 
+use crate::attributes::Attributes;
 use crate::dealer::Dealer;
-use crate::large::LONGEST_RECORD;
-use crate::pool::{Answer, FOREVER, MAX_LEN, MAX_TASK};
+use crate::pool::{Answer, FOREVER, LEAST_PRIORITY, MAX_LEN, MAX_TASK};
 use crate::replay::MAX_LOG;
 use crate::rng::Rng;
 
 /// Names of the workloads.
-pub const WORKLOADS: [&str; 4] = ["full", "small", "waiters", "mixed"];
+pub const WORKLOADS: [&str; 5] = ["full", "small", "waiters", "mixed", "priorities"];
 
 const SEED: u64 = 1;
+/// Room for another record; none of a workload is longer.
+const ROOM: usize = 16;
 /// Size of the smallest block, its header not included.
 const SMALLEST: u32 = 4;
 const HEADER: u32 = 8;
-/// The greatest limit of a get of `waiters`.
+/// The greatest limit of a get of `waiters`, and of one of `priorities`.
 const GREATEST_LIMIT: u32 = 1_000;
+const SHORT_LIMIT: u32 = 30;
 
 /// The log of a workload, the same at each call; `None` for another name.
 pub fn workload(name: &str) -> Option<Vec<u8>> {
@@ -24,14 +27,15 @@ pub fn workload(name: &str) -> Option<Vec<u8>> {
         "full" => full(rng),
         "small" => small(rng),
         "waiters" => waiters(rng),
-        _ => mixed(rng),
+        "mixed" => mixed(rng),
+        _ => priorities(rng),
     };
     Some(dealer.log)
 }
 
 /// True while another record has room.
 fn has_room(dealer: &Dealer) -> bool {
-    dealer.log.len() + LONGEST_RECORD <= MAX_LOG
+    dealer.log.len() + ROOM <= MAX_LOG
 }
 
 /// A pool of the greatest length filled with the smallest blocks, then
@@ -128,6 +132,58 @@ fn put_mixed(dealer: &mut Dealer) -> Answer {
             dealer.cancel(task)
         }
         _ => dealer.tick(),
+    }
+}
+
+/// 31 waiters of mixed priorities on a priority pool, then cancels of some, with
+/// some ticks and a few releases. A task whose wait ends asks again at once, with
+/// another priority.
+pub fn priorities(rng: Rng) -> Dealer {
+    let mut dealer = Dealer::with(rng, 128, Attributes::by_priority());
+    let whole = dealer.pool.max_size();
+    dealer.get(MAX_TASK, whole, FOREVER);
+    let mut last = [LEAST_PRIORITY; MAX_TASK as usize];
+    for task in 1..MAX_TASK {
+        put_other_wait(&mut dealer, task, &mut last);
+    }
+    while has_room(&dealer) {
+        let answer = put_end_of_wait(&mut dealer);
+        for woken in answer.woken {
+            if has_room(&dealer) {
+                put_other_wait(&mut dealer, woken.task, &mut last);
+            }
+        }
+    }
+    dealer
+}
+
+/// A get with another priority than the task's last. No two blocks of its size
+/// fit the pool, so that it waits while there is a block.
+fn put_other_wait(dealer: &mut Dealer, task: u32, last: &mut [u32]) {
+    let whole = dealer.pool.max_size();
+    let size = dealer.rng.between(whole / 2, whole);
+    let limit = if dealer.rng.chance(50) {
+        FOREVER
+    } else {
+        dealer.rng.between(1, SHORT_LIMIT) as i32
+    };
+    let last = &mut last[task as usize - 1];
+    *last = (*last + dealer.rng.below(LEAST_PRIORITY - 1)) % LEAST_PRIORITY + 1;
+    dealer.get_with_priority(task, size, limit, *last);
+}
+
+/// Most often a cancel of some waiter, else a tick or the release of the block.
+fn put_end_of_wait(dealer: &mut Dealer) -> Answer {
+    match dealer.rng.below(100) {
+        0..=1 => {
+            let offset = dealer.live_offset().unwrap_or(0);
+            dealer.release(offset)
+        }
+        2..=13 => dealer.tick(),
+        _ => {
+            let task = dealer.waiting_task().unwrap_or(0);
+            dealer.cancel(task)
+        }
     }
 }
 

@@ -18,9 +18,18 @@ const REST: u32 = 1_000;
 struct Cells {
     attributes: Attributes,
     cells: Vec<u32>,
-    /// Task, size, and the ticks to pass before the one that ends the wait, or
-    /// -1.
-    waiters: Vec<(u32, u32, i64)>,
+    /// In the order of their gets, whatever the order of the pool.
+    waiters: Vec<Waiter>,
+}
+
+#[derive(Clone, Copy)]
+struct Waiter {
+    task: u32,
+    size: u32,
+    /// Ticks to pass before the one that ends the wait, or -1.
+    ticks: i64,
+    /// The priority, or 0 for all in a FIFO pool.
+    rank: u32,
 }
 
 impl Cells {
@@ -52,11 +61,11 @@ impl Cells {
     }
 
     fn serve(&mut self, mut woken: Vec<Woken>) -> Answer {
-        while let Some(&(task, size, _)) = self.waiters.first() {
+        while let Some(Waiter { task, size, .. }) = self.in_order().first().copied() {
             let Some(offset) = self.take(task, size) else {
                 break;
             };
-            self.waiters.remove(0);
+            self.waiters.retain(|waiter| waiter.task != task);
             woken.push(Woken {
                 task,
                 code: 0,
@@ -69,8 +78,15 @@ impl Cells {
         }
     }
 
+    /// The waiters, head first. Those of equal rank keep their order.
+    fn in_order(&self) -> Vec<Waiter> {
+        let mut waiters = self.waiters.clone();
+        waiters.sort_by_key(|waiter| waiter.rank);
+        waiters
+    }
+
     fn waits(&self, task: u32) -> bool {
-        self.waiters.iter().any(|waiter| waiter.0 == task)
+        self.waiters.iter().any(|waiter| waiter.task == task)
     }
 
     fn max_size(&self) -> u32 {
@@ -80,17 +96,18 @@ impl Cells {
         }
     }
 
-    fn get(&mut self, task: u32, size: u32, limit: i64) -> Answer {
+    fn get(&mut self, task: u32, size: u32, limit: i64, priority: u32) -> Answer {
         if task == 0 || task > 32 {
             return common::answer(-18, 0);
         }
-        if size == 0 || size > self.max_size() {
+        if size == 0 || size > self.max_size() || priority == 0 || priority > 16 {
             return common::answer(-17, 0);
         }
         if self.waits(task) {
             return common::answer(-25, 0);
         }
-        let granted = if self.waiters.is_empty() {
+        let rank = priority * self.attributes.order;
+        let granted = if self.waiters.iter().all(|waiter| waiter.rank > rank) {
             self.take(task, size)
         } else {
             None
@@ -99,7 +116,13 @@ impl Cells {
             Some(offset) => common::answer(0, offset),
             None if limit == 0 => common::answer(-50, 0),
             None => {
-                self.waiters.push((task, size, limit));
+                let ticks = limit;
+                self.waiters.push(Waiter {
+                    task,
+                    size,
+                    ticks,
+                    rank,
+                });
                 common::answer(1, 0)
             }
         }
@@ -152,7 +175,7 @@ impl Cells {
         if !self.waits(task) {
             return common::answer(-41, 0);
         }
-        self.waiters.retain(|waiter| waiter.0 != task);
+        self.waiters.retain(|waiter| waiter.task != task);
         self.serve(vec![Woken {
             task,
             code: -49,
@@ -161,25 +184,37 @@ impl Cells {
     }
 
     fn tick(&mut self) -> Answer {
-        let ended = self.waiters.iter().filter(|waiter| waiter.2 == 0);
+        let waiters = self.in_order();
+        let ended = waiters.iter().filter(|waiter| waiter.ticks == 0);
         let woken = ended
             .map(|waiter| Woken {
-                task: waiter.0,
+                task: waiter.task,
                 code: -50,
                 offset: 0,
             })
             .collect();
-        self.waiters.retain(|waiter| waiter.2 != 0);
+        self.waiters.retain(|waiter| waiter.ticks != 0);
         for waiter in &mut self.waiters {
-            waiter.2 -= i64::from(waiter.2 > 0);
+            waiter.ticks -= i64::from(waiter.ticks > 0);
         }
         self.serve(woken)
     }
 
     fn apply(&mut self, record: Record) -> Answer {
         match record {
-            Record::Get { task, size, limit } => self.get(task, size, limit.into()),
-            Record::Poll { task, size } => self.get(task, size, 0),
+            Record::Get { task, size, limit } => self.get(task, size, limit.into(), 16),
+            Record::Poll { task, size } => self.get(task, size, 0, 16),
+            Record::PriorityGet {
+                task,
+                size,
+                limit,
+                priority,
+            } => self.get(task, size, limit.into(), priority),
+            Record::PriorityPoll {
+                task,
+                size,
+                priority,
+            } => self.get(task, size, 0, priority),
             Record::Release { offset } => self.release(offset),
             Record::Cancel { task } => self.cancel(task),
             Record::Tick => self.tick(),
@@ -193,7 +228,7 @@ fn assert_same_answers((attributes, log): PoolLog) -> usize {
     let Ok(mut replay) = Replay::start(attributes, &log) else {
         return 0;
     };
-    let mut cells = Cells::new(attributes, replay.pool().len());
+    let mut cells = Cells::new(replay.pool().attributes(), replay.pool().len());
     let mut records = 0;
     while let Step::Done(record, answer) = replay.step() {
         assert_eq!(answer, cells.apply(record));

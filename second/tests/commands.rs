@@ -151,8 +151,8 @@ fn compare_kinds_different(folder: &Path) {
 /// more, and the request has no reply.
 fn write_reply(folder: &Path) {
     let path = folder.join("request");
-    let hex = "08000000 40000000 01000000 01000000 01000000 01000000
-        01000000 01000000 0A000000 FFFFFFFF";
+    let hex = "08000000 40000000 00000000 01000000 01000000 01000000 01000000 01000000
+        01000000 01000000 0A000000 FFFFFFFF 00000000";
     let mut request = from_hex(hex).expect("hex digits");
     fs::write(&path, &request).expect("request written");
     let reply = b"0 5\n\x40\x01\x01\x0A\x00\x05\x06\x07";

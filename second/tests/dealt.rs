@@ -4,9 +4,9 @@ use second::coverage::Coverage;
 use second::deal::deal;
 use second::replay::MAX_LOG;
 
-fn coverage(seed: u64) -> Coverage {
+fn coverage(seed: u64, count: u64) -> Coverage {
     let mut coverage = Coverage::default();
-    for index in 0..300 {
+    for index in 0..count {
         coverage.add_log(&deal(seed, index));
     }
     coverage
@@ -71,11 +71,54 @@ const NAMES: &[&str] = &[
     "bad record, limit field",
     "bad record, long form",
     "bad record, too large",
+    "bad record, misplaced 8",
     "end clean",
 ];
 
+/// What the dealt logs reach by priorities and by record 8.
+const PRIORITY_NAMES: &[&str] = &[
+    "FIFO pool",
+    "FIFO pool, record 1 or 2",
+    "FIFO pool, record 6",
+    "FIFO pool, record 7",
+    "FIFO pool, priority 0",
+    "FIFO pool, priority 1",
+    "FIFO pool, priority 16",
+    "FIFO pool, priority 17",
+    "FIFO pool, priority 4294967295",
+    "FIFO pool, get held back by worse",
+    "FIFO pool, get with limit 0, held back by worse",
+    "FIFO pool, poll held back by worse",
+    "FIFO pool, newcomer at the end",
+    "priority pool",
+    "priority pool, record 1 or 2",
+    "priority pool, record 6",
+    "priority pool, record 7",
+    "priority pool, priority 0",
+    "priority pool, priority 1",
+    "priority pool, priority 16",
+    "priority pool, priority 17",
+    "priority pool, priority 4294967295",
+    "priority pool, get granted past worse",
+    "priority pool, get with limit 0, granted past worse",
+    "priority pool, poll granted past worse",
+    "priority pool, get held back by equal",
+    "priority pool, get with limit 0, held back by equal",
+    "priority pool, poll held back by equal",
+    "priority pool, get held back by better",
+    "priority pool, poll held back by better",
+    "priority pool, newcomer at the front",
+    "priority pool, newcomer in the middle",
+    "priority pool, newcomer at the end",
+    "wrong priority of a waiting task",
+    "wrong priority of a wrong task",
+    "record 8 twice",
+    "record 8 in the middle",
+    "record 8 at the end",
+];
+
 fn assert_reaches_all(seed: u64) {
-    let coverage = coverage(seed);
+    let coverage = coverage(seed, 300);
     for name in NAMES {
         assert!(coverage.count(name) > 0, "seed {seed} misses {name}");
     }
@@ -103,6 +146,34 @@ fn assert_reaches_all(seed: u64) {
 #[test]
 fn seed_1_reaches_all() {
     assert_reaches_all(1);
+}
+
+/// Nobody passes a better or equal waiter, and in a FIFO pool nobody at all.
+const NEVER: &[&str] = &[
+    "FIFO pool, get granted past worse",
+    "FIFO pool, poll granted past worse",
+    "FIFO pool, newcomer at the front",
+    "FIFO pool, newcomer in the middle",
+    "priority pool, get granted past equal",
+    "priority pool, get granted past better",
+    "priority pool, poll granted past equal",
+    "priority pool, poll granted past better",
+    "priority pool, get held back by worse",
+    "priority pool, poll held back by worse",
+];
+
+/// The comparisons run so many logs of seed 1.
+#[test]
+fn many_logs_reach_priorities_often() {
+    for seed in [1, 2] {
+        let coverage = coverage(seed, 3_000);
+        for name in PRIORITY_NAMES {
+            assert!(coverage.count(name) >= 20, "seed {seed}: {name}");
+        }
+        for name in NEVER {
+            assert_eq!(coverage.count(name), 0, "seed {seed}: {name}");
+        }
+    }
 }
 
 #[test]

@@ -13,7 +13,12 @@ fn in_use(greatest: u32) -> Option<&'static [u32]> {
 }
 
 fn create_of(len: u32, kinds: u32, greatest: u32) -> Result<Pool, i32> {
-    Pool::create(len, Attributes { kinds, greatest })
+    let attributes = Attributes {
+        kinds,
+        greatest,
+        order: 0,
+    };
+    Pool::create(len, attributes)
 }
 
 #[test]

@@ -130,11 +130,34 @@ fn cases_written_are_read_back() {
     let log = from_hex(SPECIFIED).expect("hex digits");
     for kinds in [0, 1, 127, 128, u32::MAX] {
         for greatest in [0, 12, 49_140, 201_326_580, u32::MAX] {
-            let attributes = Attributes { kinds, greatest };
+            let attributes = Attributes {
+                kinds,
+                greatest,
+                order: 0,
+            };
             let case = case_bytes(attributes, &log);
             assert_eq!(read_case(&case), Some((attributes, &log[..])));
         }
     }
+}
+
+/// Record 8 in the log makes the pool a priority pool: task 4 with priority 1
+/// passes task 2, which waits for 37 bytes.
+#[test]
+fn texts_of_priority_pools() {
+    let records = "01 01 01 00 01 02 25 00 07 04 01 01 03 1C 03 08";
+    let expected = "pool 92\n0 8\n1 0\n-50 0\n-17 0\n0 0\nw 2 0 8\nend 5 records\n";
+    assert_eq!(text(&format!("01 54 5C {records}")), expected);
+    let expected = "pool 92\n0 8\n1 0\n0 28\n0 0\n0 0\nw 2 0 8\nend 5 records\n";
+    assert_eq!(text(&format!("01 54 5C 08 {records}")), expected);
+    let expected = "pool 92\n0 8\n0 20\n0 68\n-17 0\n0 0\nend 5 records\n";
+    assert_eq!(text(&format!("00 00 5C 08 {records}")), expected);
+    for prefix in ["01 55", "01 00", "00 01", "02 00"] {
+        let expected = "pool refused -17\n";
+        assert_eq!(text(&format!("{prefix} 5C 08 {records}")), expected);
+    }
+    assert_eq!(text("01 54 5C 08 08"), "pool 92\nbad log at 2\n");
+    assert_eq!(text("01 54 5C 05 08"), "pool 92\n0 0\nbad log at 2\n");
 }
 
 /// Zeros change nothing in the text of any log.
@@ -171,6 +194,11 @@ const NAMES: &[&str] = &[
     "refused, unknown choice",
     "log of the greatest length",
     "log too long",
+    "FIFO pool",
+    "priority pool",
+    "priority pool, newcomer at the front",
+    "priority pool, newcomer in the middle",
+    "priority pool, newcomer at the end",
 ];
 
 /// What only dealt cases reach.
@@ -179,6 +207,10 @@ const OTHER_NAMES: &[&str] = &[
     "get with limit 0, code -50",
     "cancel code -41",
     "queue of 32",
+    "priority pool, get granted past worse",
+    "priority pool, get held back by equal",
+    "priority pool, poll granted past worse",
+    "priority pool, poll held back by equal",
 ];
 
 fn assert_reaches(coverage: &Coverage, names: &[&str]) {
@@ -220,6 +252,7 @@ fn edge_cases_reach_all() {
     let mut coverage = Coverage::default();
     edge_cases().iter().for_each(|case| coverage.add_case(case));
     assert_reaches(&coverage, NAMES);
+    assert_reaches(&coverage, &["record 8 twice", "record 8 at the end"]);
 }
 
 /// Each M has a case that is created, if one can be, and one that is refused.

@@ -101,6 +101,23 @@ fn records_written_are_read_back() {
         Record::Release { offset: u32::MAX },
         Record::Cancel { task: 77 },
         Record::Tick,
+        Record::PriorityGet {
+            task: 1,
+            size: 200,
+            limit: i32::MAX,
+            priority: 0,
+        },
+        Record::PriorityGet {
+            task: 1,
+            size: 2,
+            limit: -1,
+            priority: u32::MAX,
+        },
+        Record::PriorityPoll {
+            task: 1,
+            size: 2,
+            priority: 300,
+        },
     ];
     for record in records {
         let mut out = Vec::new();
@@ -118,10 +135,15 @@ fn records_written_are_read_back() {
 
 #[test]
 fn limit_fields() {
-    let limit = |hex: &str| match read_record(&bytes(hex)) {
-        Reading::Record(Record::Get { limit, .. }, _) => Ok(limit),
+    let limit_of = |hex: String| match read_record(&bytes(&hex)) {
+        Reading::Record(record, _) => Ok(record.asked().map_or(0, |asked| asked.limit)),
         Reading::Bad(fault) => Err(fault),
-        other => panic!("{other:?}"),
+        Reading::End => panic!("{hex}"),
+    };
+    let limit = |hex: &str| {
+        let with_priority = limit_of(hex.replacen("01", "06", 1) + " 09");
+        assert_eq!(limit_of(hex.to_string()), with_priority, "{hex}");
+        with_priority
     };
     assert_eq!(limit("01 01 04 00"), Ok(-1));
     assert_eq!(limit("01 01 04 01"), Ok(0));
@@ -133,9 +155,10 @@ fn limit_fields() {
 
 #[test]
 fn kinds() {
-    for hex in ["00", "06", "07", "08", "7F", "80 01", "85 01 00"] {
+    for hex in ["00", "09", "0A", "7F", "80 01", "85 01 00", "86 01 00"] {
         assert_eq!(read_record(&bytes(hex)), Reading::Bad(Fault::Kind), "{hex}");
     }
+    assert_eq!(read_record(&bytes("08")), Reading::Bad(Fault::Order));
     let long = Reading::Bad(Fault::Number(NumberFault::LongForm));
     assert_eq!(read_record(&bytes("85 00")), long);
 }
@@ -210,7 +233,9 @@ fn bad_records() {
     for (tail, place) in [
         ("00", 1),
         ("06", 1),
+        ("09", 1),
         ("05 06 05", 2),
+        ("05 09 05", 2),
         ("05 05 03", 3),
         ("03 88 00", 1),
         ("05 03 FF FF FF FF 10", 2),

@@ -1,13 +1,14 @@
-//! Properties of random runs, on pools without kinds and with them.
+//! Properties of random runs, on pools of both orders, without kinds and with
+//! them.
 
 mod common;
 
-use common::{need, woke, State, STATES};
+use common::{is_by_priority, need, woke, State, STATES};
 use second::dealer::Dealer;
 use second::pool::{Answer, Pool, Woken, MAX_TASK};
 
-/// A get as (task, size, limit).
-type Get = (u32, u32, i32);
+/// A get as (task, size, limit, priority).
+type Get = (u32, u32, i32, u32);
 
 fn assert_runs_sound(pool: &Pool) {
     let runs = pool.runs().as_slice();
@@ -42,6 +43,11 @@ fn assert_queue_sound(pool: &Pool) {
         assert!(waiter
             .left
             .is_none_or(|left| (1..=2_147_483_648).contains(&left)));
+        assert!((1..=16).contains(&waiter.priority));
+    }
+    if is_by_priority(pool) {
+        let priorities = pool.queue().iter().map(|waiter| waiter.priority);
+        assert!(priorities.is_sorted());
     }
     if let Some(head) = pool.queue().head() {
         let need = need(pool.attributes(), head.size);
@@ -107,8 +113,9 @@ fn assert_waits_change_the_queue(state: State) {
     }
 }
 
-/// A request of any sort, refused ones included, with any limit but 0.
-fn any_get(dealer: &mut Dealer, task: u32) -> Get {
+/// A request of any sort, refused ones included, with any limit but 0. Its
+/// priority is the given one, or any.
+fn any_get(dealer: &mut Dealer, task: u32, priority: Option<u32>) -> Get {
     let most_small = dealer.pool.max_size().min(12);
     let size = match dealer.rng.below(10) {
         0 => dealer.wrong_size(),
@@ -120,11 +127,15 @@ fn any_get(dealer: &mut Dealer, task: u32) -> Get {
     } else {
         dealer.limit()
     };
-    (task, size, limit)
+    let any = match dealer.rng.below(10) {
+        0 => dealer.wrong_priority(),
+        _ => dealer.any_priority(),
+    };
+    (task, size, limit, priority.unwrap_or(any))
 }
 
 /// Gets of other tasks than `first`, no task twice, also of wrong tasks.
-fn any_list(dealer: &mut Dealer, first: u32) -> Vec<Get> {
+fn any_list(dealer: &mut Dealer, first: u32, priority: Option<u32>) -> Vec<Get> {
     let mut tasks = dealer.shuffled_tasks();
     tasks.extend([0, 33, 64, u32::MAX]);
     tasks.retain(|&task| task != first);
@@ -133,13 +144,13 @@ fn any_list(dealer: &mut Dealer, first: u32) -> Vec<Get> {
     tasks.truncate(count);
     tasks
         .into_iter()
-        .map(|task| any_get(dealer, task))
+        .map(|task| any_get(dealer, task, priority))
         .collect()
 }
 
 fn run_list(pool: &mut Pool, list: &[Get]) -> Vec<Answer> {
     list.iter()
-        .map(|&(task, size, limit)| pool.get(task, size, limit))
+        .map(|&(task, size, limit, priority)| pool.get_with_priority(task, size, limit, priority))
         .collect()
 }
 
@@ -173,6 +184,7 @@ fn empty_queue(dealer: &mut Dealer) {
     }
 }
 
+/// In a priority pool all gets of the list have the first one's priority.
 #[test]
 fn a_cancelled_wait_leaves_no_mark() {
     STATES.into_iter().for_each(assert_cancels_leave_no_mark);
@@ -187,12 +199,14 @@ fn assert_cancels_leave_no_mark(state: State) {
         }
         let first = dealer.any_task();
         let (size, limit) = (dealer.size(), dealer.limit());
+        let priority = dealer.any_priority();
         let mut without = dealer.pool.clone();
         let mut with = dealer.pool.clone();
-        if with.get(first, size, limit).code != 1 {
+        if with.get_with_priority(first, size, limit, priority).code != 1 {
             continue;
         }
-        let list = any_list(&mut dealer, first);
+        let same = is_by_priority(&with).then_some(priority);
+        let list = any_list(&mut dealer, first, same);
         let answers_with = run_list(&mut with, &list);
         let answers = run_list(&mut without, &list);
         let cancelled = with.cancel(first);
@@ -213,11 +227,14 @@ fn assert_cancels_leave_no_mark(state: State) {
 
 #[test]
 fn a_release_at_once_restores_the_state() {
-    STATES.into_iter().for_each(assert_releases_restore);
+    let past = STATES.map(assert_releases_restore);
+    assert_eq!(past[..2], [0, 0]);
+    assert!(past[2] > 150 && past[3] > 50, "{past:?}");
 }
 
-fn assert_releases_restore(state: State) {
-    let mut cases = 0;
+/// Answers how many of the blocks were granted though somebody waits.
+fn assert_releases_restore(state: State) -> usize {
+    let (mut cases, mut past) = (0, 0);
     for index in 0..4_000 {
         let mut dealer = state(15, index);
         let before = dealer.pool.clone();
@@ -234,8 +251,10 @@ fn assert_releases_restore(state: State) {
         assert_eq!(dealer.release(answer.offset), woke(&[]));
         assert_eq!(dealer.pool, before);
         cases += 1;
+        past += usize::from(!before.queue().is_empty());
     }
     assert!(cases > 500, "{cases}");
+    past
 }
 
 /// The greatest size that a run with this room holds, or 0.

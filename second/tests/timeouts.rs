@@ -255,8 +255,10 @@ fn same_end_ends_all_its_waits_in_one_tick() {
         let ticks = expired_by_tick(&log);
         let end = ticks.iter().position(|tasks| !tasks.is_empty());
         let longest = end.expect("some tick ends a wait");
-        let tasks: Vec<u32> = (1..=longest as u32).rev().collect();
-        assert_eq!(ticks[longest], tasks, "log {index}");
+        let mut expired = ticks[longest].clone();
+        expired.sort_unstable();
+        let tasks: Vec<u32> = (1..=longest as u32).collect();
+        assert_eq!(expired, tasks, "log {index}");
         assert!(longest + 1 < ticks.len(), "log {index}");
         expired_waits((Attributes::default(), log));
     }

@@ -1,14 +1,16 @@
 //! How long a wait can last: with L live blocks, the task at place k of the
 //! queue is served in or before the successful release L + k - 1 from then on,
-//! unless its wait is cancelled or expires.
+//! unless its wait is cancelled or expires. In a priority pool this holds while
+//! no task of better priority asks.
 
 mod common;
 
 use std::collections::{BTreeMap, BTreeSet};
 
 use common::{
-    after_e, answer, blocks, create, create_with_kinds, dealt_case_logs, dealt_logs,
-    logs_with_ticks, random_kinds_state, random_state, waiting, woke, PoolLog,
+    after_e, answer, blocks, create, create_by_priority, create_with_kinds, dealt_case_logs,
+    dealt_logs, is_by_priority, logs_with_ticks, random_fifo_state, random_kinds_state,
+    random_priority_state, random_state, waiting, woke, PoolLog,
 };
 use second::log::Record;
 use second::pool::{Answer, Pool, Woken, FOREVER, MAX_TASK};
@@ -45,7 +47,8 @@ impl Served {
 }
 
 /// Follows the waits of a run and checks them against their deadlines. The
-/// deadline of a wait is the least that any point of the run so far has given.
+/// deadline of a wait is the least that any point of the run so far has given,
+/// in a priority pool since a task of better priority last asked.
 #[derive(Default)]
 struct Observer {
     /// Successful releases so far.
@@ -71,7 +74,22 @@ impl Observer {
         for &woken in &answer.woken {
             self.end(woken);
         }
+        self.forget(record, answer, pool);
         self.note(pool);
+    }
+
+    /// Forgets the deadlines of those that a request of better priority may
+    /// delay. One that is refused delays nobody.
+    fn forget(&mut self, record: Record, answer: &Answer, pool: &Pool) {
+        let Some(asked) = record.asked() else {
+            return;
+        };
+        if is_by_priority(pool) && answer.code >= 0 {
+            let worse = pool.queue().iter();
+            for waiter in worse.filter(|waiter| waiter.priority > asked.priority) {
+                self.deadlines.remove(&waiter.task);
+            }
+        }
     }
 
     /// Ends a wait. It must not be served after its deadline; with another code
@@ -186,18 +204,24 @@ fn every_wait_is_served_within_its_bound() {
 }
 
 #[test]
+fn every_wait_with_a_priority_is_served_within_its_bound() {
+    tally(logs_with_ticks(random_fifo_state)).assert_above([15_000, 7_000, 3_500, 350]);
+    tally(logs_with_ticks(random_priority_state)).assert_above([15_000, 7_000, 3_500, 350]);
+}
+
+#[test]
 fn every_wait_with_kinds_is_served_within_its_bound() {
-    tally(logs_with_ticks(random_kinds_state)).assert_above([13_000, 1_600, 1_200, 1_000]);
+    tally(logs_with_ticks(random_kinds_state)).assert_above([11_500, 1_400, 1_000, 950]);
 }
 
 #[test]
 fn every_wait_of_a_dealt_log_is_served_within_its_bound() {
-    tally(dealt_logs()).assert_above([11_000, 550, 350, 130]);
+    tally(dealt_logs()).assert_above([9_000, 450, 280, 130]);
 }
 
 #[test]
 fn every_wait_of_a_dealt_case_is_served_within_its_bound() {
-    tally(dealt_case_logs()).assert_above([11_000, 250, 180, 110]);
+    tally(dealt_case_logs()).assert_above([10_000, 250, 180, 90]);
 }
 
 /// The task that joins at a place of the queue, the head being at 1. No task has
@@ -258,8 +282,9 @@ fn the_bound_is_reached_exactly() {
     for live in 1..=20 {
         for place in 1..=MAX_TASK {
             for rest in [0, 4, 8] {
-                let fresh = create(12 * live + rest);
-                assert_bound_is_reached(&fresh, PLAIN, live, place);
+                for fresh in [create, create_by_priority] {
+                    assert_bound_is_reached(&fresh(12 * live + rest), PLAIN, live, place);
+                }
             }
         }
     }
@@ -336,4 +361,68 @@ fn a_cancel_after_example_e_serves_the_second() {
     let after = vec![(20, 1), (28, 2), (16, 4)];
     let expected = (answer, after, vec![served(3, 0)]);
     assert_eq!(call_after_e(Record::Cancel { task: 3 }), expected);
+}
+
+/// A priority pool of 64 bytes in which task 1 holds 20 bytes, and task 2 waits
+/// with priority 9 for the whole pool, so that its bound is 1.
+fn with_waiter() -> Pool {
+    let mut pool = create_by_priority(64);
+    assert_eq!(pool.get(1, 10, FOREVER), answer(0, 8));
+    assert_eq!(pool.get_with_priority(2, 56, FOREVER, 9), answer(1, 0));
+    assert_eq!(bounds(&pool), [(2, 1)]);
+    pool
+}
+
+/// Tasks of equal and of worse priority ask, and the bound holds.
+#[test]
+fn equal_and_worse_requests_do_not_break_the_bound() {
+    let mut pool = with_waiter();
+    for (task, priority) in [(3, 9), (4, 10), (5, 16)] {
+        assert_eq!(
+            pool.get_with_priority(task, 4, FOREVER, priority),
+            answer(1, 0)
+        );
+        assert_eq!(pool.poll_with_priority(6, 4, priority), answer(-50, 0));
+    }
+    assert_eq!(bounds(&pool), [(2, 1), (3, 2), (4, 3), (5, 4)]);
+    assert_eq!(pool.release(8), woke(&[(2, 0, 8)]));
+}
+
+/// A task of better priority waits in front and is served by the release.
+#[test]
+fn a_better_waiter_breaks_the_bound() {
+    let mut pool = with_waiter();
+    assert_eq!(pool.get_with_priority(3, 56, FOREVER, 8), answer(1, 0));
+    assert_eq!(pool.release(8), woke(&[(3, 0, 8)]));
+    assert_eq!(waiting(&pool), [2]);
+    assert_eq!(pool.release(8), woke(&[(2, 0, 8)]));
+}
+
+/// A task of better priority has a block at once, which keeps task 2 out.
+#[test]
+fn a_better_block_breaks_the_bound() {
+    let mut pool = with_waiter();
+    assert_eq!(pool.poll_with_priority(3, 4, 8), answer(0, 28));
+    assert_eq!(pool.release(8), woke(&[]));
+    assert_eq!(waiting(&pool), [2]);
+    assert_eq!(pool.release(28), woke(&[(2, 0, 8)]));
+}
+
+/// The better request begins a new bound for those it may delay.
+#[test]
+fn after_a_better_request_the_bound_holds_anew() {
+    let mut pool = with_waiter();
+    let mut observer = Observer::new(&pool);
+    let better = Record::PriorityGet {
+        task: 3,
+        size: 56,
+        limit: FOREVER,
+        priority: 8,
+    };
+    assert_eq!(call(&mut pool, &mut observer, better), answer(1, 0));
+    assert_eq!(bounds(&pool), [(3, 1), (2, 2)]);
+    for _ in 0..2 {
+        call(&mut pool, &mut observer, Record::Release { offset: 8 });
+    }
+    assert_eq!(observer.served, [served(1, 1), served(2, 2)]);
 }

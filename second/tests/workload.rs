@@ -1,5 +1,7 @@
 //! The workloads have their length and reach their states.
 
+use std::collections::BTreeSet;
+
 use second::attributes::Attributes;
 use second::coverage::Coverage;
 use second::log::Record;
@@ -82,6 +84,28 @@ fn workloads_are_repeatable_and_differ() {
     assert_eq!(workload("none"), None);
 }
 
+/// The FNV-1a sum of bytes.
+fn sum(bytes: &[u8]) -> u64 {
+    bytes.iter().fold(0xCBF2_9CE4_8422_2325, |sum, &byte| {
+        (sum ^ u64::from(byte)).wrapping_mul(0x0100_0000_01B3)
+    })
+}
+
+/// Times taken at different versions are of the same logs.
+#[test]
+fn workloads_without_priorities_keep_their_bytes() {
+    for (name, expected) in [
+        ("full", 0x490F_BD8F_BF01_72E9),
+        ("small", 0xC4A2_5ADE_E47E_295B),
+        ("waiters", 0x6E07_80E1_A305_D7DC),
+        ("mixed", 0x59EE_EBBD_7B1F_6B49),
+    ] {
+        assert_eq!(sum(&log(name)), expected, "{name}");
+    }
+    let ticks = ticks(100, 31, 50).expect("there is room");
+    assert_eq!(sum(&ticks), 0x5658_8C85_06BB_05A1);
+}
+
 #[test]
 fn full_fills_the_pool_with_the_smallest_blocks() {
     let (mut full, mut nearly_full, mut records) = (false, 0, 0);
@@ -138,4 +162,36 @@ fn ticks_fill_the_pool_and_the_queue() {
     assert_eq!(ticks(5_462, 0, 1), None);
     assert_eq!(ticks(1, 32, 1), None);
     assert_eq!(ticks(1, 0, MAX_LOG), None);
+}
+
+#[test]
+fn priorities_has_long_queues_of_mixed_priorities() {
+    let log = log("priorities");
+    assert_eq!(log[..3], [0x80, 0x01, 0x08]);
+    let (mut records, mut waiters, mut renewed, mut mixed) = (0, 0, 0, 0);
+    each_record("priorities", |record, pool| {
+        let cancel = matches!(record, Record::Cancel { .. });
+        renewed += usize::from(cancel || matches!(record, Record::PriorityGet { .. }));
+        let priorities: BTreeSet<u32> = pool.queue().iter().map(|w| w.priority).collect();
+        mixed += usize::from(priorities.len() >= 8);
+        waiters += pool.queue().len();
+        records += 1;
+    });
+    assert!(waiters > 30 * records, "{waiters} in {records}");
+    assert!(10 * renewed > 8 * records && 10 * mixed > 9 * records);
+    let coverage = coverage("priorities");
+    assert!(coverage.maximum("waiters") == 31);
+    assert_eq!(coverage.count("get code 0"), 1);
+    assert!(coverage.count("tick code 0") > 500 && coverage.count("release code 0") > 50);
+    assert_reaches(
+        "priorities",
+        &[
+            "cancel code 0",
+            "release serves",
+            "woken -50",
+            "priority pool, newcomer at the front",
+            "priority pool, newcomer in the middle",
+            "priority pool, newcomer at the end",
+        ],
+    );
 }

@@ -4,6 +4,7 @@ use model::Answer;
 use model::Attributes;
 use model::BlockOffset;
 use model::DEFAULTS;
+use model::LOWEST_PRIORITY;
 use model::Queue;
 
 fn told(a: Answer) -> Queue {
@@ -18,16 +19,18 @@ pub fn create(buffer: &mut [u8]) -> Queue {
     told(pool::create(buffer, DEFAULTS))
 }
 
-// With the choice and the greatest request given, and written with what the queue keeps.
-pub fn create_with(buffer: &mut [u8], kinds: u32, greatest: u32) -> Queue {
+// With the choice of rounding, the greatest request and the order given, and written with what the queue keeps.
+pub fn create_with(buffer: &mut [u8], kinds: u16, greatest: u32, order: u16) -> Queue {
     show::text(b"create");
     show::number(buffer.len());
     show::number(kinds as usize);
     show::number(greatest as usize);
+    show::number(order as usize);
     let queue = told(pool::create(
         buffer,
         Attributes {
             kinds: kinds,
+            order: order,
             greatest: greatest,
         },
     ));
@@ -40,14 +43,33 @@ pub fn get(buffer: &mut [u8], queue: Queue, task: u32, size: u32, limit: i32) ->
     show::number(task as usize);
     show::number(size as usize);
     show::signed(limit);
-    told(pool::get(buffer, queue, task, size, limit))
+    told(pool::get(buffer, queue, task, size, limit, LOWEST_PRIORITY))
+}
+
+// A get without a limit, and a poll, with a priority.
+pub fn get_by(buffer: &mut [u8], queue: Queue, task: u32, size: u32, priority: u32) -> Queue {
+    show::text(b"get");
+    show::number(task as usize);
+    show::number(size as usize);
+    show::text(b" by");
+    show::number(priority as usize);
+    told(pool::get(buffer, queue, task, size, -1, priority))
+}
+
+pub fn poll_by(buffer: &mut [u8], queue: Queue, task: u32, size: u32, priority: u32) -> Queue {
+    show::text(b"poll");
+    show::number(task as usize);
+    show::number(size as usize);
+    show::text(b" by");
+    show::number(priority as usize);
+    told(pool::poll(buffer, queue, task, size, priority))
 }
 
 pub fn poll(buffer: &mut [u8], queue: Queue, task: u32, size: u32) -> Queue {
     show::text(b"poll");
     show::number(task as usize);
     show::number(size as usize);
-    told(pool::poll(buffer, queue, task, size))
+    told(pool::poll(buffer, queue, task, size, LOWEST_PRIORITY))
 }
 
 pub fn release(buffer: &mut [u8], queue: Queue, offset: usize) -> Queue {

@@ -2,26 +2,27 @@
 use crate::calls;
 use crate::show;
 use model::DEFAULTS;
+use model::LOWEST_PRIORITY;
 use model::Queue;
 
 // ---- the states that other examples begin with, left without writing a line
 
 pub fn after_b(buffer: &mut [u8; 64]) -> Queue {
     let a = pool::create(buffer, DEFAULTS);
-    let b = pool::get(buffer, a.queue, 1, 10, -1);
+    let b = pool::get(buffer, a.queue, 1, 10, -1, LOWEST_PRIORITY);
     b.queue
 }
 
 pub fn after_c(buffer: &mut [u8; 64]) -> Queue {
     let b = after_b(buffer);
-    let c = pool::get(buffer, b, 2, 20, -1);
+    let c = pool::get(buffer, b, 2, 20, -1, LOWEST_PRIORITY);
     c.queue
 }
 
 pub fn after_e(buffer: &mut [u8; 64]) -> Queue {
     let c = after_c(buffer);
-    let d = pool::get(buffer, c, 3, 12, -1);
-    let e = pool::get(buffer, d.queue, 4, 4, -1);
+    let d = pool::get(buffer, c, 3, 12, -1, LOWEST_PRIORITY);
+    let e = pool::get(buffer, d.queue, 4, 4, -1, LOWEST_PRIORITY);
     e.queue
 }
 

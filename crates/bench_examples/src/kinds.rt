@@ -3,13 +3,14 @@ use crate::calls;
 use crate::refusals;
 use crate::show;
 use model::Attributes;
+use model::FIFO_ORDER;
 use model::Queue;
 use model::WITH_KINDS;
 
 // The greatest request is 20, so the kinds are 12 and 36.
 fn two_kinds(buffer: &mut [u8; 64]) {
     show::title(b"kinds 12 and 36");
-    let fresh = calls::create_with(buffer, WITH_KINDS, 20);
+    let fresh = calls::create_with(buffer, WITH_KINDS, 20, FIFO_ORDER);
     let too_great = calls::get(buffer, fresh, 1, 21, -1);
     let first = calls::get(buffer, too_great, 1, 1, -1);
     let second = calls::get(buffer, first, 2, 13, -1);
@@ -25,31 +26,32 @@ fn two_kinds(buffer: &mut [u8; 64]) {
 // The top kind and 8 just fit, or miss by 4; no greatest request; one above every kind; one without kinds; unknown choices.
 fn choices() {
     show::title(b"choices of create");
-    calls::create_with(&mut [170; 20], WITH_KINDS, 1);
-    calls::create_with(&mut [170; 16], WITH_KINDS, 1);
-    calls::create_with(&mut [170; 380], WITH_KINDS, 372);
-    calls::create_with(&mut [170; 376], WITH_KINDS, 372);
-    calls::create_with(&mut [170; 764], WITH_KINDS, 373);
-    calls::create_with(&mut [170; 65536], WITH_KINDS, 49140);
-    calls::create_with(&mut [170; 65536], WITH_KINDS, 49141);
-    calls::create_with(&mut [170; 65536], WITH_KINDS, 201326580);
-    calls::create_with(&mut [170; 65536], WITH_KINDS, 4294967295);
-    calls::create_with(&mut [170; 64], WITH_KINDS, 0);
-    calls::create_with(&mut [170; 64], 0, 1);
-    calls::create_with(&mut [170; 64], 2, 0);
-    calls::create_with(&mut [170; 64], 4294967295, 20);
+    calls::create_with(&mut [170; 20], WITH_KINDS, 1, FIFO_ORDER);
+    calls::create_with(&mut [170; 16], WITH_KINDS, 1, FIFO_ORDER);
+    calls::create_with(&mut [170; 380], WITH_KINDS, 372, FIFO_ORDER);
+    calls::create_with(&mut [170; 376], WITH_KINDS, 372, FIFO_ORDER);
+    calls::create_with(&mut [170; 764], WITH_KINDS, 373, FIFO_ORDER);
+    calls::create_with(&mut [170; 65536], WITH_KINDS, 49140, FIFO_ORDER);
+    calls::create_with(&mut [170; 65536], WITH_KINDS, 49141, FIFO_ORDER);
+    calls::create_with(&mut [170; 65536], WITH_KINDS, 201326580, FIFO_ORDER);
+    calls::create_with(&mut [170; 65536], WITH_KINDS, 4294967295, FIFO_ORDER);
+    calls::create_with(&mut [170; 64], WITH_KINDS, 0, FIFO_ORDER);
+    calls::create_with(&mut [170; 64], 0, 1, FIFO_ORDER);
+    calls::create_with(&mut [170; 64], 2, 0, FIFO_ORDER);
+    calls::create_with(&mut [170; 64], 65535, 20, FIFO_ORDER);
 }
 
 // A queue that keeps what create would refuse: a choice of 1 without a greatest request.
 fn spoiled(buffer: &mut [u8; 64]) {
     show::title(b"a choice without a greatest request");
-    let fresh = calls::create_with(buffer, WITH_KINDS, 20);
+    let fresh = calls::create_with(buffer, WITH_KINDS, 20, FIFO_ORDER);
     let entries = fresh.entries;
     refusals::all_calls(
         buffer,
         Queue {
             attributes: Attributes {
                 kinds: WITH_KINDS,
+                order: FIFO_ORDER,
                 greatest: 0,
             },
             entries: entries,

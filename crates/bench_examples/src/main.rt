@@ -1,8 +1,9 @@
-// The bench examples of document 01, and size kinds, run by the proved calls. Each call is written with what it answers; the file `stdout` has what document 01 expects.
+// The bench examples of document 01, size kinds and priorities, run by the proved calls. Each call is written with what it answers; the file `stdout` has what document 01 expects.
 mod blocks;
 mod calls;
 mod examples;
 mod kinds;
+mod priorities;
 mod refusals;
 mod serving;
 mod show;
@@ -13,4 +14,5 @@ fn main() {
     serving::run();
     blocks::run();
     kinds::run();
+    priorities::run();
 }

@@ -93,6 +93,7 @@ fn spoiled_queue(buffer: &mut [u8; 64], size: u32, left: u32) {
     let mut entries = c.entries;
     entries[0] = Entry {
         task: 3,
+        priority: 16,
         size: size,
         left: left,
     };

@@ -3,6 +3,7 @@ use layout::header;
 use model::Answer;
 use model::Entry;
 use model::FOREVER;
+use model::LOWEST_PRIORITY;
 use model::Queue;
 use model::TASKS;
 use model::Woken;
@@ -53,7 +54,7 @@ pub fn answer(a: Answer) {
     }
 }
 
-// The task, the size as asked and the ticks left.
+// The task, the size as asked and the ticks left, and the priority where it is not the lowest.
 fn entry(e: Entry) {
     if e.task != 0 {
         number(e.task as usize);
@@ -65,15 +66,20 @@ fn entry(e: Entry) {
         } else {
             io::print_decimal(1, e.left as u64);
         }
+        if e.priority as u32 != LOWEST_PRIORITY {
+            text(b" by");
+            number(e.priority as usize);
+        }
     }
 }
 
-// The choice and the greatest request that the queue keeps.
+// The choice of rounding, the greatest request and the order that the queue keeps.
 pub fn kept(q: Queue) {
     let attributes = q.attributes;
     text(b"kept");
     number(attributes.kinds as usize);
     number(attributes.greatest as usize);
+    number(attributes.order as usize);
     text(b"\n");
 }
 

@@ -2,11 +2,12 @@
 // started writes nothing; what is no record ends it.
 use log::LONGEST_LOG;
 use log::Read;
-use model::DEFAULTS;
+use log::Start;
+use model::Attributes;
 use model::HeaderPlace;
 use model::LONGEST_POOL;
 use model::Queue;
-use numbers::Number;
+use model::WITHOUT_KINDS;
 ghost use Prim.Native.Nat.{_≤_};
 ghost use lib.ListN.{length};
 
@@ -33,8 +34,15 @@ fn play(log: &[u8], start: usize, pool: &mut [u8], first: Queue) {
     }
 }
 
-fn run(log: &[u8], start: usize, pool: &mut [u8]) {
-    let made = pool::create(pool, DEFAULTS);
+fn run(log: &[u8], start: usize, order: u16, pool: &mut [u8]) {
+    let made = pool::create(
+        pool,
+        Attributes {
+            kinds: WITHOUT_KINDS,
+            order: order,
+            greatest: 0,
+        },
+    );
     if made.code != 0 {
         return;
     }
@@ -43,16 +51,16 @@ fn run(log: &[u8], start: usize, pool: &mut [u8]) {
 }
 
 // The first n bytes of the buffer are lent as the pool.
-fn lend(log: &[u8], start: usize, buffer: &mut [u8], n: usize)
+fn lend(log: &[u8], start: usize, order: u16, buffer: &mut [u8], n: usize)
     requires { ⌜ n ≤ length (now buffer) ⌝ }
 {
-    run(log, start, &mut buffer[0..n]);
+    run(log, start, order, &mut buffer[0..n]);
 }
 
 // A log that is not too long.
 fn replay(log: &[u8]) {
-    let length = log::read_length(log);
-    let Number::Value(n, start) = length else {
+    let begun = log::read_start(log);
+    let Start::Taken(n, order, start) = begun else {
         return;
     };
     let n = n as usize;
@@ -60,7 +68,7 @@ fn replay(log: &[u8]) {
         return;
     }
     let mut buffer = [0u8; 65536];
-    lend(log, start, &mut buffer, n);
+    lend(log, start, order, &mut buffer, n);
 }
 
 fn main() {

@@ -1,9 +1,10 @@
 // Carries out a request to write a log, from standard input, and writes the line `code length` and then the bytes of the buffer.
-// A request is words of four bytes, lowest byte first: the buffer's length, the pool's length, the lengths of the columns kinds, firsts, seconds and
-// limits, then the columns; a limit is in two's complement. Byte i of the buffer is i % 251 before the call. What is no request writes nothing.
+// A request is words of four bytes, lowest byte first: the buffer's length, the pool's length and order, the lengths of the columns kinds, firsts,
+// seconds, limits and priorities, then the columns; a limit is in two's complement. Byte i of the buffer is i % 251 before the call. What is no request
+// writes nothing.
 use layout::header;
 use log::writer;
-ghost use Prim.Native.Nat.{_*_, _≤_};
+ghost use Prim.Native.Nat.{_+_, _*_, _≤_};
 ghost use lib.ListN.{length};
 
 // The most places of a column, and bytes of a buffer.
@@ -12,9 +13,9 @@ const MOST_ROWS: usize = 4100;
 const LONGEST_BUFFER: usize = 65600;
 
 // The words before the columns, and the most words and bytes of a request.
-const HEAD: usize = 6;
+const HEAD: usize = 8;
 
-const MOST_WORDS: usize = HEAD + 4 * MOST_ROWS;
+const MOST_WORDS: usize = HEAD + 5 * MOST_ROWS;
 
 const LONGEST_REQUEST: usize = 4 * MOST_WORDS;
 
@@ -60,9 +61,18 @@ fn line(code: i32, length: usize) {
     io::write_all(1, &text[..size]);
 }
 
-fn write(buf: &mut [u8], n: u32, kinds: &[u32], firsts: &[u32], seconds: &[u32], limits: &[i32]) {
+fn write(
+    buf: &mut [u8],
+    n: u32,
+    order: u16,
+    kinds: &[u32],
+    firsts: &[u32],
+    seconds: &[u32],
+    limits: &[i32],
+    priorities: &[u32],
+) {
     fill(buf);
-    let written = writer::write_log(buf, n, kinds, firsts, seconds, limits);
+    let written = writer::write_log(buf, n, order, kinds, firsts, seconds, limits, priorities);
     line(written.code, written.length);
     io::write_all(1, buf);
 }
@@ -71,7 +81,42 @@ fn wide(v: u32) -> usize {
     v as usize
 }
 
-// The columns stand behind the head, one after another, and fill the rest.
+// The order in 16 bits; one that has more is as unknown as their greatest.
+fn order_of(number: u32) -> u16 {
+    if 65535 < number {
+        return 65535;
+    }
+    number as u16
+}
+
+// The columns stand one after another, with so many places, and the priorities fill the rest.
+fn write_columns(
+    buf: &mut [u8],
+    n: u32,
+    order: u16,
+    columns: &[u32],
+    firsts: usize,
+    seconds: usize,
+    third: usize,
+    last: usize,
+    limits: &mut [i32],
+)
+    requires { ⌜ (firsts ≤ seconds) × (seconds ≤ third) × (third ≤ last) × (last ≤ length (now columns)) × (last ≤ third + length (now limits)) ⌝ }
+{
+    read_limits(&columns[third..last], limits);
+    write(
+        buf,
+        n,
+        order,
+        &columns[0..firsts],
+        &columns[firsts..seconds],
+        &columns[seconds..third],
+        &limits[0..last - third],
+        &columns[last..],
+    );
+}
+
+// The columns stand behind the head.
 fn respond(words: &[u32], limits: &mut [i32], buffer: &mut [u8])
     requires { ⌜ (4100 ≤ length (now limits)) × (65600 ≤ length (now buffer)) ⌝ }
 {
@@ -82,10 +127,11 @@ fn respond(words: &[u32], limits: &mut [i32], buffer: &mut [u8])
     if LONGEST_BUFFER < size {
         return;
     }
-    let a = wide(words[2]);
-    let b = wide(words[3]);
-    let c = wide(words[4]);
-    let d = wide(words[5]);
+    let a = wide(words[3]);
+    let b = wide(words[4]);
+    let c = wide(words[5]);
+    let d = wide(words[6]);
+    let e = wide(words[7]);
     if MOST_ROWS < a {
         return;
     }
@@ -98,20 +144,25 @@ fn respond(words: &[u32], limits: &mut [i32], buffer: &mut [u8])
     if MOST_ROWS < d {
         return;
     }
-    let firsts = HEAD + a;
-    let seconds = firsts + b;
-    let last = seconds + c;
-    if words.len() != last + d {
+    if MOST_ROWS < e {
         return;
     }
-    read_limits(&words[last..], limits);
-    write(
+    let seconds = a + b;
+    let third = seconds + c;
+    let last = third + d;
+    if words.len() != HEAD + last + e {
+        return;
+    }
+    write_columns(
         &mut buffer[0..size],
         words[1],
-        &words[HEAD..firsts],
-        &words[firsts..seconds],
-        &words[seconds..last],
-        &limits[0..d],
+        order_of(words[2]),
+        &words[HEAD..],
+        a,
+        seconds,
+        third,
+        last,
+        limits,
     );
 }
 

@@ -16,11 +16,12 @@ use lib.ListN.{length, take, getD, List·getD-eq-default}
 use borrow.Author.Tests.{le-leb, lt-leb, lt-ltb, ltb-true, eqb-true, ne-eqb}
 use Rattle.numbers.proofs.Decode.{side}
 use Rattle.log.specs.declared.Record.{Record}
-use Rattle.log.specs.declared.Record.the-variants.{Get, Poll, Release, Cancel, Tick}
+use Rattle.log.specs.declared.Record.the-variants.{Get, Poll, Release, Cancel, Tick, PriorityGet, PriorityPoll}
 use Rattle.log.specs.declared.Kind.{Kind}
 use Rattle.log.specs.declared.Kind.the-variants as kind
+use Rattle.log.specs.declared.Read.{Read}
 use Rattle.log.specs.declared.Read.the-variants.{Taken, Bad}
-use Rattle.log.specs.Record.{limitBound, limitOf, limitField, isLimit, Limited, fieldsOf, kinds, kindOf, fieldCount, recordFrom}
+use Rattle.log.specs.Record.{limitBound, limitOf, limitField, isLimit, Limited, fieldsOf, kinds, kindOf, fieldCount, limitedBy, recordFrom}
 
 -- a limit and its field
 pub limit-none : (field : ℕ) → field ≡ 0 → negsuc 0 ≡ limitOf field
@@ -71,66 +72,78 @@ field-some (pos n) f t =
 field-some (negsuc n) f t =
     let a : true ≡ false = rw (toZ-ofZ w32 (negsuc n) f) at t in let z : _≡_ {A = ℕ} 0 1 = cc in absurd (omega arith)
 
-pub get-limited : (task size limit n : ℕ) → limit ≤ limitBound → Taken (Get task size (limitOf limit)) n ≡ recordFrom kind.Get task size limit n
-get-limited task size limit n h = rw (le-leb limit limitBound h)
+-- a record with a limit field, by whether that is too great
+pub limit-within : (limit : ℕ) (x : Read) → limit ≤ limitBound → x ≡ limitedBy limit x
+limit-within limit x h = rw (le-leb limit limitBound h)
 
-pub get-refused : (task size limit n : ℕ) → limitBound < limit → Bad ≡ recordFrom kind.Get task size limit n
-get-refused task size limit n h = rw (lt-leb limit limitBound h)
+pub limit-over : (limit : ℕ) (x : Read) → limitBound < limit → Bad ≡ limitedBy limit x
+limit-over limit x h = rw (lt-leb limit limitBound h)
 
--- the numbers from 1 to 5 are those of the kinds that there are
-pub kind-unknown : (n : ℕ) → (0 < n → 5 < n) → kind.Unknown ≡ kindOf n
-kind-unknown zero h = refl
-kind-unknown (suc n) h = sym (List·getD-eq-default kinds kind.Unknown (h (omega arith)))
+-- the numbers from 1 to 7 are those of the kinds that there are
+pub kind-unknown : (n : ℕ) → (n ≡ 1 → ⊥) → (n ≡ 2 → ⊥) → (n ≡ 3 → ⊥) → (n ≡ 4 → ⊥) → (n ≡ 5 → ⊥) → (n ≡ 6 → ⊥) → (n ≡ 7 → ⊥) → kind.Unknown ≡ kindOf n
+kind-unknown zero a b c d e f g = refl
+kind-unknown (suc zero) a b c d e f g = absurd (a refl)
+kind-unknown (suc (suc zero)) a b c d e f g = absurd (b refl)
+kind-unknown (suc (suc (suc zero))) a b c d e f g = absurd (c refl)
+kind-unknown (suc (suc (suc (suc zero)))) a b c d e f g = absurd (d refl)
+kind-unknown (suc (suc (suc (suc (suc zero))))) a b c d e f g = absurd (e refl)
+kind-unknown (suc (suc (suc (suc (suc (suc zero)))))) a b c d e f g = absurd (f refl)
+kind-unknown (suc (suc (suc (suc (suc (suc (suc zero))))))) a b c d e f g = absurd (g refl)
+kind-unknown (suc (suc (suc (suc (suc (suc (suc (suc n)))))))) a b c d e f g = refl
 
-pub count-few : (k : Kind) → fieldCount k ≤ 3
+pub count-few : (k : Kind) → fieldCount k ≤ 4
 count-few kind.Get = omega arith
 count-few kind.Poll = omega arith
 count-few kind.Release = omega arith
 count-few kind.Cancel = omega arith
 count-few kind.Tick = omega arith
+count-few kind.PriorityGet = omega arith
+count-few kind.PriorityPoll = omega arith
 count-few kind.Unknown = omega arith
 
 pub not-taken : {A : Type 0} {r : Record} {n : ℕ} → Bad ≡ Taken r n → A
 not-taken e = let z : _≡_ {A = ℕ} 0 1 = cc in absurd (omega arith)
 
--- the numbers of the record r that was made of a kind's number and of its fields among a, b and c
-pub record Made (number a b c after : ℕ) (r : Record) (n : ℕ) : Type 0 where
-  pub numbers : fieldsOf r ≡ number ∷ take (fieldCount (kindOf number)) (a ∷ b ∷ c ∷ [])
+-- the numbers of the record r that was made of a kind's number and of its fields among a, b, c and d
+pub record Made (number a b c d after : ℕ) (r : Record) (n : ℕ) : Type 0 where
+  pub numbers : fieldsOf r ≡ number ∷ take (fieldCount (kindOf number)) (a ∷ b ∷ c ∷ d ∷ [])
   pub limited : Limited r
-  pub known : number ≤ 5
+  pub known : number ≤ 7
   pub place : after ≡ n
 
-module _ (a b c after : ℕ) (r : Record) (n : ℕ) where
-  made-as : (number : ℕ) (x : Record) → fieldsOf x ≡ number ∷ take (fieldCount (kindOf number)) (a ∷ b ∷ c ∷ []) → Limited x → number ≤ 5
-      → Taken x after ≡ Taken r n → Made number a b c after r n
+module _ (a b c d after : ℕ) (r : Record) (n : ℕ) where
+  made-as : (number : ℕ) (x : Record) → fieldsOf x ≡ number ∷ take (fieldCount (kindOf number)) (a ∷ b ∷ c ∷ d ∷ []) → Limited x → number ≤ 7
+      → Taken x after ≡ Taken r n → Made number a b c d after r n
   made-as number x f l k e = let q : x ≡ r = cc in rw (← q) (record { numbers = f; limited = l; known = k; place = cc })
 
-  made-get : recordFrom kind.Get a b c after ≡ Taken r n → Made 1 a b c after r n
-  unfolding fieldsOf
-  made-get e = ⊎-elim over within (side limitBound c)
-    where
-      over : limitBound < c → Made 1 a b c after r n
-      over h = not-taken (get-refused a b c after h ∙ e)
+  -- of a record x with a limit field
+  made-limited : (number : ℕ) (x : Record) → (c ≤ limitBound → Taken x after ≡ Taken r n → Made number a b c d after r n) → limitedBy c (Taken x after) ≡ Taken r n → Made number a b c d after r n
+  made-limited number x within e =
+      ⊎-elim
+      (λ h. not-taken (limit-over c (Taken x after) h ∙ e))
+      (λ h. within h (limit-within c (Taken x after) h ∙ e))
+      (side limitBound c)
 
-      within : c ≤ limitBound → Made 1 a b c after r n
-      within h =
-          let l = field-limit c h in
-          made-as 1 (Get a b (limitOf c)) (rw (l .0)) (l .1) (omega arith) (get-limited a b c after h ∙ e)
-
-  pub made-inv : (number : ℕ) → recordFrom (kindOf number) a b c after ≡ Taken r n → Made number a b c after r n
+  pub made-inv : (number : ℕ) → recordFrom (kindOf number) a b c d after ≡ Taken r n → Made number a b c d after r n
   unfolding fieldsOf
   made-inv zero e = not-taken e
-  made-inv (suc zero) e = made-get e
+  made-inv (suc zero) e =
+      made-limited 1 (Get a b (limitOf c)) (λ h. let l = field-limit c h in made-as 1 (Get a b (limitOf c)) (rw (l .0)) (l .1) (omega arith)) e
   made-inv (suc (suc zero)) e = made-as 2 (Poll a b) refl tt (omega arith) e
   made-inv (suc (suc (suc zero))) e = made-as 3 (Release a) refl tt (omega arith) e
   made-inv (suc (suc (suc (suc zero)))) e = made-as 4 (Cancel a) refl tt (omega arith) e
   made-inv (suc (suc (suc (suc (suc zero))))) e = made-as 5 Tick refl tt (omega arith) e
-  made-inv (suc (suc (suc (suc (suc (suc k)))))) e = not-taken e
+  made-inv (suc (suc (suc (suc (suc (suc zero)))))) e =
+      made-limited 6 (PriorityGet a b (limitOf c) d)
+      (λ h. let l = field-limit c h in made-as 6 (PriorityGet a b (limitOf c) d) (rw (l .0)) (l .1) (omega arith)) e
+  made-inv (suc (suc (suc (suc (suc (suc (suc zero))))))) e = made-as 7 (PriorityPoll a b c) refl tt (omega arith) e
+  made-inv (suc (suc (suc (suc (suc (suc (suc (suc k)))))))) e = not-taken e
 
--- a list of at most three elements by its elements
-pub take-three : (fs : List ℕ) → length fs ≤ 3 → take (length fs) (getD fs 0 0 ∷ getD fs 1 0 ∷ getD fs 2 0 ∷ []) ≡ fs
-take-three [] h = refl
-take-three (a ∷ []) h = refl
-take-three (a ∷ b ∷ []) h = refl
-take-three (a ∷ b ∷ c ∷ []) h = refl
-take-three (a ∷ b ∷ c ∷ d ∷ fs) h = absurd (omega arith)
+-- a list of at most four elements by its elements
+pub take-four : (fs : List ℕ) → length fs ≤ 4 → take (length fs) (getD fs 0 0 ∷ getD fs 1 0 ∷ getD fs 2 0 ∷ getD fs 3 0 ∷ []) ≡ fs
+take-four [] h = refl
+take-four (a ∷ []) h = refl
+take-four (a ∷ b ∷ []) h = refl
+take-four (a ∷ b ∷ c ∷ []) h = refl
+take-four (a ∷ b ∷ c ∷ d ∷ []) h = refl
+take-four (a ∷ b ∷ c ∷ d ∷ e ∷ fs) h = absurd (omega arith)

@@ -3,6 +3,7 @@ pub mod Forms
 pub mod Reading
 pub mod Records
 pub mod Theorems
+pub mod Starts
 pub mod Logs
 pub mod Rows
 pub mod Writing

@@ -6,14 +6,14 @@ use mathlib.Core.Option.{Option, none, some}
 use native.Mathlib.Omega.{arith}
 use lib.ListN.{length, drop, length-append, take-append-drop}
 use lib.Seq.{drop-nil, drop-append-seam}
-use Rattle.numbers.specs.declared.Number.{Number}
-use Rattle.numbers.specs.declared.Number.the-variants.{Value, Refused}
-use Rattle.numbers.specs.Number.{Bytes, numberOf}
+use Rattle.numbers.specs.Number.{Bytes}
 use Rattle.log.specs.declared.Record.{Record}
+use Rattle.log.specs.declared.Start.{Start}
+use Rattle.log.specs.declared.Start.the-variants as start
 use Rattle.log.specs.declared.Read.{Read}
 use Rattle.log.specs.declared.Read.the-variants.{Taken, End, Bad}
 use Rattle.log.specs.Record.{fieldsOf, recordOf, encodeRecord}
-use Rattle.log.specs.Log.{encodeRecords, recordsLength, AllExpressible, inFront, recordsOf, Log, withLength, readLog}
+use Rattle.log.specs.Log.{encodeRecords, recordsLength, AllExpressible, inFront, startOf, recordsOf, Log, withStart, readLog}
 use Rattle.log.proofs.Fields.{length-fields, bytes-drop}
 use Rattle.log.proofs.Theorems.{record-encode, encode-record, record-expressible, record-length, record-end, encode-record-length}
 
@@ -27,7 +27,7 @@ unfolding encodeRecords recordsLength
 length-records [] = refl
 length-records (r ∷ rs) = length-append (encodeRecord r) (encodeRecords rs) ∙ rw (length-fields (fieldsOf r), length-records rs)
 
-pub records-most : (rs : List Record) → AllExpressible rs → recordsLength rs ≤ 16 * length rs
+pub records-most : (rs : List Record) → AllExpressible rs → recordsLength rs ≤ 21 * length rs
 unfolding recordsLength AllExpressible
 records-most [] h = omega arith
 records-most (r ∷ rs) h = omega (arith, encode-record-length r (h .0), length-fields (fieldsOf r), records-most rs (h .1))
@@ -108,24 +108,24 @@ pub records-expressible : (k : ℕ) (s : List ℕ) (rs : List Record) → record
 unfolding AllExpressible
 records-expressible = records-ind (λ s rs. AllExpressible rs) tt (λ s r n rs e ih. (record-expressible s r n e, ih))
 
--- ---- what a log that is read whole comes from: its length, in the first bytes, and the records behind them
+-- ---- what a log that is read whole comes from: its length and order, in the first bytes, and the records behind them
 
 pub record Whole (s : List ℕ) (l : Log) : Type 0 where
-  pub size : ℕ
-  pub number : numberOf s ≡ Value (l .long) size
-  pub rest : recordsOf size s ≡ some (l .records)
+  pub place : ℕ
+  pub first : startOf s ≡ start.Taken (l .long) (l .order) place
+  pub rest : recordsOf place s ≡ some (l .records)
 
 module _ (s : List ℕ) (l : Log) where
-  whole-records : (n size : ℕ) (x : Option (List Record)) → numberOf s ≡ Value n size → recordsOf size s ≡ x → withLength n x ≡ some l → Whole s l
-  whole-records n size none q p e = no-some e
-  whole-records n size (some rs) q p e =
-      let same : record { long = n; records = rs } ≡ l = cc in
-      record { size = size; number = q ∙ rw (← same); rest = p ∙ rw (← same) }
+  whole-records : (n order place : ℕ) (x : Option (List Record)) → startOf s ≡ start.Taken n order place → recordsOf place s ≡ x → withStart n order x ≡ some l → Whole s l
+  whole-records n order place none q p e = no-some e
+  whole-records n order place (some rs) q p e =
+      let same : record { long = n; order = order; records = rs } ≡ l = cc in
+      record { place = place; first = q ∙ rw (← same); rest = p ∙ rw (← same) }
 
-  whole-number : (x : Number) → numberOf s ≡ x → readLog s ≡ some l → Whole s l
+  whole-start : (x : Start) → startOf s ≡ x → readLog s ≡ some l → Whole s l
   unfolding readLog
-  whole-number Refused q e = no-some (rw (q, readLog) at e)
-  whole-number (Value n size) q e = whole-records n size (recordsOf size s) q refl (rw (q, readLog) at e)
+  whole-start start.Bad q e = no-some (rw (q, readLog) at e)
+  whole-start (start.Taken n order place) q e = whole-records n order place (recordsOf place s) q refl (rw (q, readLog) at e)
 
   pub whole : readLog s ≡ some l → Whole s l
-  whole = whole-number (numberOf s) refl
+  whole = whole-start (startOf s) refl

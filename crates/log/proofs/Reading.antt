@@ -22,10 +22,10 @@ use Rattle.log.proofs.Forms.{count-few}
 -- the i fields in front of fs are read, and at is the place after them
 pub record Reading (s : List ℕ) (k : Kind) (count : ℕ) (fs : List ℕ) (at i : ℕ) : Type 0 where
   pub same : recordOf s ≡ made k (before (take i fs) at (readFields (count - i) (drop at s)))
-  pub few : count ≤ 3
+  pub few : count ≤ 4
   pub within : i ≤ count
   pub inside : at ≤ length s
-  pub size : length fs ≡ 3
+  pub size : length fs ≡ 4
   pub zeros : (j : ℕ) → i ≤ j → getD fs j 0 ≡ 0
 
 getD-zeros : (n j : ℕ) → _≡_ {A = ℕ} (getD (replicate n 0) j 0) 0
@@ -52,14 +52,14 @@ module _ (s : List ℕ) (some : length s ≡ 0 → ⊥) where
   record-refused e = rw (record-some s some, e)
 
   pub reading-start : (k : Kind) (count number n : ℕ) → numberOf s ≡ Value number n → k ≡ kindOf number → count ≡ fieldCount k
-      → Reading s k count (replicate 3 0) n 0
+      → Reading s k count (replicate 4 0) n 0
   reading-start k count number n e q p = record {
     same = record-some s some ∙ rw (e, ← q, ← p, sub-zero count);
     few = rw p (count-few k);
     within = omega arith;
     inside = number-within s number n e .1;
     size = refl;
-    zeros = λ j l. getD-zeros 3 j;
+    zeros = λ j l. getD-zeros 4 j;
   }
 
 module _ {s : List ℕ} {k : Kind} {count : ℕ} {fs : List ℕ} {at i : ℕ} (g : Reading s k count fs at i) where
@@ -87,8 +87,8 @@ module _ {s : List ℕ} {k : Kind} {count : ℕ} {fs : List ℕ} {at i : ℕ} (g
       past : i ≤ j → getD (take i fs) j 0 ≡ getD fs j 0
       past h = List·getD-eq-default (take i fs) 0 (rw (length-take i fs) (omega arith)) ∙ sym (g .zeros j h)
 
-  pub reading-done : count ≤ i → recordFrom k (getD fs 0 0) (getD fs 1 0) (getD fs 2 0) at ≡ recordOf s
+  pub reading-done : count ≤ i → recordFrom k (getD fs 0 0) (getD fs 1 0) (getD fs 2 0) (getD fs 3 0) at ≡ recordOf s
   unfolding readFields
   reading-done h =
       let z : count - i ≡ 0 = omega arith in
-      rw (g .same, z, append-nil (take i fs), taken 0, taken 1, taken 2, add-zero at)
+      rw (g .same, z, append-nil (take i fs), taken 0, taken 1, taken 2, taken 3, add-zero at)

@@ -12,14 +12,14 @@ use Rattle.numbers.specs.Number.{numberOf, encode}
 use Rattle.numbers.proofs.Decode.{side}
 use Rattle.numbers.proofs.Theorems.{number-encode, encode-length}
 use Rattle.log.specs.declared.Record.{Record}
-use Rattle.log.specs.declared.Record.the-variants.{Get, Poll, Release, Cancel, Tick}
+use Rattle.log.specs.declared.Record.the-variants.{Get, Poll, Release, Cancel, Tick, PriorityGet, PriorityPoll}
 use Rattle.log.specs.declared.Kind.{Kind}
 use Rattle.log.specs.declared.Kind.the-variants as kind
 use Rattle.log.specs.declared.Read.the-variants.{Taken, End, Bad}
 use Rattle.log.specs.Fields.{Fields, Fields·read, Fields·refused, before, readFields, encodeFields, Small}
-use Rattle.log.specs.Record.{limitBound, limitField, fieldsOf, kindOf, fieldCount, recordFrom, made, afterKind, recordOf, encodeRecord, Expressible}
+use Rattle.log.specs.Record.{limitBound, limitField, fieldsOf, kindOf, fieldCount, limitedBy, recordFrom, made, afterKind, recordOf, encodeRecord, Expressible}
 use Rattle.log.proofs.Fields.{Listed, read-encode, read-listed, listed-more}
-use Rattle.log.proofs.Forms.{Made, made-inv, not-taken, take-three, count-few, limit-field, get-limited, get-refused}
+use Rattle.log.proofs.Forms.{Made, made-inv, not-taken, take-four, count-few, limit-field, limit-within, limit-over}
 use Rattle.log.proofs.Reading.{record-some}
 
 -- a kind's number and as many fields as the kind has are read back
@@ -42,12 +42,15 @@ pub record-read : (r : Record) (rest : List ℕ) → Expressible r → recordOf 
 unfolding fieldsOf
 record-read (Get task size limit) rest h =
     let l = limit-field limit (h .limited) in
-    numbers-read 1 (task ∷ size ∷ limitField limit ∷ []) rest (h .small) refl
-    ∙ (sym (get-limited task size (limitField limit) _ (l .1)) ∙ rw (l .0))
+    numbers-read 1 (task ∷ size ∷ limitField limit ∷ []) rest (h .small) refl ∙ (sym (limit-within (limitField limit) _ (l .1)) ∙ rw (l .0))
 record-read (Poll task size) rest h = numbers-read 2 (task ∷ size ∷ []) rest (h .small) refl
 record-read (Release offset) rest h = numbers-read 3 (offset ∷ []) rest (h .small) refl
 record-read (Cancel task) rest h = numbers-read 4 (task ∷ []) rest (h .small) refl
 record-read Tick rest h = numbers-read 5 [] rest (h .small) refl
+record-read (PriorityGet task size limit priority) rest h =
+    let l = limit-field limit (h .limited) in
+    numbers-read 6 (task ∷ size ∷ limitField limit ∷ priority ∷ []) rest (h .small) refl ∙ (sym (limit-within (limitField limit) _ (l .1)) ∙ rw (l .0))
+record-read (PriorityPoll task size priority) rest h = numbers-read 7 (task ∷ size ∷ priority ∷ []) rest (h .small) refl
 
 -- what a record comes from: the number of its kind, in the first bytes, and the fields, in those behind them
 pub record Source (s : List ℕ) (r : Record) (n : ℕ) : Type 0 where
@@ -57,7 +60,7 @@ pub record Source (s : List ℕ) (r : Record) (n : ℕ) : Type 0 where
   pub size : ℕ
   pub kind : numberOf s ≡ Value number first
   pub fields : Listed (fieldCount (kindOf number)) (drop first s) fs size
-  pub makes : Made number (getD fs 0 0) (getD fs 1 0) (getD fs 2 0) (first + size) r n
+  pub makes : Made number (getD fs 0 0) (getD fs 1 0) (getD fs 2 0) (getD fs 3 0) (first + size) r n
 
 module _ (s : List ℕ) (r : Record) (n : ℕ) where
   source-fields : (number m : ℕ) (x : Fields) → numberOf s ≡ Value number m → readFields (fieldCount (kindOf number)) (drop m s) ≡ x
@@ -70,7 +73,7 @@ module _ (s : List ℕ) (r : Record) (n : ℕ) where
     size = o;
     kind = q;
     fields = read-listed (fieldCount (kindOf number)) (drop m s) fs o p;
-    makes = made-inv (getD fs 0 0) (getD fs 1 0) (getD fs 2 0) (m + o) r n number e;
+    makes = made-inv (getD fs 0 0) (getD fs 1 0) (getD fs 2 0) (getD fs 3 0) (m + o) r n number e;
   }
 
   source-kind : (x : Number) → numberOf s ≡ x → afterKind x s ≡ Taken r n → Source s r n
@@ -88,8 +91,8 @@ source (b ∷ s) r n e = source-kind (b ∷ s) r n (numberOf (b ∷ s)) refl e
 module _ {s : List ℕ} {r : Record} {n : ℕ} (t : Source s r n) where
   source-numbers : fieldsOf r ≡ t .number ∷ t .fs
   source-numbers =
-      let l : length (t .fs) ≤ 3 = rw (t .fields .count) (count-few (kindOf (t .number))) in
-      t .makes .numbers ∙ rw (← t .fields .count, take-three (t .fs) l)
+      let l : length (t .fs) ≤ 4 = rw (t .fields .count) (count-few (kindOf (t .number))) in
+      t .makes .numbers ∙ rw (← t .fields .count, take-four (t .fs) l)
 
   -- its numbers stand there one after another
   pub source-listed : Listed (suc (fieldCount (kindOf (t .number)))) s (fieldsOf r) n
@@ -101,18 +104,22 @@ module _ {s : List ℕ} {r : Record} {n : ℕ} (t : Source s r n) where
 bad-end : {A : Type 0} → Bad ≡ End → A
 bad-end e = let z : _≡_ {A = ℕ} 0 1 = cc in absurd (omega arith)
 
-form-end : {A : Type 0} (k : Kind) (a b c n : ℕ) → recordFrom k a b c n ≡ End → A
-form-end kind.Get a b c n e =
-    ⊎-elim (λ h. bad-end (get-refused a b c n h ∙ e)) (λ h. no-end (sym (get-limited a b c n h ∙ e))) (side limitBound c)
-form-end kind.Poll a b c n e = no-end (sym e)
-form-end kind.Release a b c n e = no-end (sym e)
-form-end kind.Cancel a b c n e = no-end (sym e)
-form-end kind.Tick a b c n e = no-end (sym e)
-form-end kind.Unknown a b c n e = bad-end e
+limited-end : {A : Type 0} (c : ℕ) (r : Record) (n : ℕ) → limitedBy c (Taken r n) ≡ End → A
+limited-end c r n e = ⊎-elim (λ h. bad-end (limit-over c (Taken r n) h ∙ e)) (λ h. no-end (sym (limit-within c (Taken r n) h ∙ e))) (side limitBound c)
+
+form-end : {A : Type 0} (k : Kind) (a b c d n : ℕ) → recordFrom k a b c d n ≡ End → A
+form-end kind.Get a b c d n e = limited-end c _ n e
+form-end kind.Poll a b c d n e = no-end (sym e)
+form-end kind.Release a b c d n e = no-end (sym e)
+form-end kind.Cancel a b c d n e = no-end (sym e)
+form-end kind.Tick a b c d n e = no-end (sym e)
+form-end kind.PriorityGet a b c d n e = limited-end c _ n e
+form-end kind.PriorityPoll a b c d n e = no-end (sym e)
+form-end kind.Unknown a b c d n e = bad-end e
 
 fields-end : {A : Type 0} (k : Kind) (x : Fields) → made k x ≡ End → A
 fields-end k Fields·refused e = bad-end e
-fields-end k (Fields·read fs n) e = form-end k (getD fs 0 0) (getD fs 1 0) (getD fs 2 0) n e
+fields-end k (Fields·read fs n) e = form-end k (getD fs 0 0) (getD fs 1 0) (getD fs 2 0) (getD fs 3 0) n e
 
 kind-end : {A : Type 0} (x : Number) (s : List ℕ) → afterKind x s ≡ End → A
 kind-end Refused s e = bad-end e

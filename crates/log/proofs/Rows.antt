@@ -1,74 +1,91 @@
 -- Laws of the rows that a writer is given, and of the columns that hold them. Assumes nothing.
 use Prim.Native.Nat.{ℕ, zero, suc, _+_, _-_, _≤_, _<_}
 use mathlib.Core.Path.{_≡_, refl, sym, _∙_}
-use mathlib.Core.Bool.{true}
+use mathlib.Core.Bool.{true, cond}
 use mathlib.Core.List.{List, [], _∷_}
-use mathlib.Core.Option.{some}
+use mathlib.Core.Option.{none, some}
 use native.Mathlib.Omega.{arith}
 use native.Mathlib.Nat.{sub-zero}
 use native.Mathlib.Numerals.{add-one}
+use lib.IntN.{ℤ}
 use lib.ListN.{length, take, length-take}
 use Rattle.model.proofs.Tests.{by}
 use Rattle.numbers.specs.Number.{numberBound}
 use Rattle.log.specs.declared.Record.{Record}
-use Rattle.log.specs.declared.Record.the-variants.{Get, Poll, Release, Cancel, Tick}
+use Rattle.log.specs.declared.Record.the-variants.{Get, Poll, Release, Cancel, Tick, PriorityGet, PriorityPoll}
 use Rattle.log.specs.declared.Kind.{Kind}
 use Rattle.log.specs.declared.Kind.the-variants as kind
 use Rattle.log.specs.declared.Read.the-variants.{Taken}
 use Rattle.log.specs.declared.writer.Row.{Row}
 use Rattle.log.specs.Fields.{Small}
-use Rattle.log.specs.Record.{isLimit, limitField, fieldsOf, kindOf, fieldCount, recordFrom, Limited, Expressible}
+use Rattle.log.specs.Record.{limitBound, limitOf, limitField, isLimit, fieldsOf, kindOf, fieldCount, limitedBy, recordFrom, Limited, Expressible}
 use Rattle.log.specs.Log.{encodeRecords, AllExpressible}
 use Rattle.log.specs.Writer.{givenAs, given, Columns, rowAt, givenFrom, rowOf, columnsOf, Typed}
-use Rattle.log.specs.Steps.{isSome, numbersOf, Holds, rowsBytes}
+use Rattle.log.specs.Steps.{isSome, thirdOf, rowFields, numbersOf, Holds, rowsBytes}
 use Rattle.log.proofs.Fields.{small-take}
-use Rattle.log.proofs.Forms.{Made, made-inv, count-few, limit-field, get-limited}
+use Rattle.log.proofs.Forms.{Made, made-inv, count-few, limit-field, limit-within}
 use Rattle.log.proofs.Logs.{no-some, front}
 
 -- a get is a record exactly if its limit is one
-pub get-given : (w : Row) → isLimit (w .limit) ≡ isSome (givenAs kind.Get w)
-get-given w = by (isLimit (w .limit)) (λ h. rw h) (λ h. rw h)
+pub limit-given : (w : Row) (r : Record) → isLimit (w .limit) ≡ isSome (cond (isLimit (w .limit)) (some r) none)
+limit-given w r = by (isLimit (w .limit)) (λ h. rw h) (λ h. rw h)
 
 -- a row's record is the one that the reader makes of the row's numbers
-same-get : (w : Row) (r : Record) (n : ℕ) → givenAs kind.Get w ≡ some r → recordFrom kind.Get (w .first) (w .second) (limitField (w .limit)) n ≡ Taken r n
-same-get w r n e = by (isLimit (w .limit)) limited (λ h. no-some (rw h at e))
+same-limited : (w : Row) (made : ℤ → Record) (r : Record) (n : ℕ) → cond (isLimit (w .limit)) (some (made (w .limit))) none ≡ some r
+    → limitedBy (limitField (w .limit)) (Taken (made (limitOf (limitField (w .limit)))) n) ≡ Taken r n
+same-limited w made r n e = by (isLimit (w .limit)) limited (λ h. no-some (rw h at e))
   where
-    limited : isLimit (w .limit) ≡ true → recordFrom kind.Get (w .first) (w .second) (limitField (w .limit)) n ≡ Taken r n
+    limited : isLimit (w .limit) ≡ true → limitedBy (limitField (w .limit)) (Taken (made (limitOf (limitField (w .limit)))) n) ≡ Taken r n
     limited h =
         let l = limit-field (w .limit) h in
         let f = rw h at e in
-        sym (get-limited (w .first) (w .second) (limitField (w .limit)) n (l .1)) ∙ rw (l .0) (cc)
+        sym (limit-within (limitField (w .limit)) _ (l .1)) ∙ rw (l .0) (cc)
 
-same-record : (k : Kind) (w : Row) (r : Record) (n : ℕ) → givenAs k w ≡ some r → recordFrom k (w .first) (w .second) (limitField (w .limit)) n ≡ Taken r n
-same-record kind.Get w r n e = same-get w r n e
+same-record : (k : Kind) (w : Row) (r : Record) (n : ℕ) → givenAs k w ≡ some r → recordFrom k (w .first) (w .second) (thirdOf k w) (w .priority) n ≡ Taken r n
+same-record kind.Get w r n e = same-limited w (λ l. Get (w .first) (w .second) l) r n e
 same-record kind.Poll w r n e = cc
 same-record kind.Release w r n e = cc
 same-record kind.Cancel w r n e = cc
 same-record kind.Tick w r n e = cc
+same-record kind.PriorityGet w r n e = same-limited w (λ l. PriorityGet (w .first) (w .second) l (w .priority)) r n e
+same-record kind.PriorityPoll w r n e = cc
 same-record kind.Unknown w r n e = no-some e
 
 -- so it has the row's numbers
-given-made : (w : Row) (r : Record) → given w ≡ some r → Made (w .kind) (w .first) (w .second) (limitField (w .limit)) 0 r 0
-given-made w r e = made-inv (w .first) (w .second) (limitField (w .limit)) 0 r 0 (w .kind) (same-record (kindOf (w .kind)) w r 0 e)
+abbrev third : Row → ℕ
+third w = thirdOf (kindOf (w .kind)) w
+
+given-made : (w : Row) (r : Record) → given w ≡ some r → Made (w .kind) (w .first) (w .second) (third w) (w .priority) 0 r 0
+given-made w r e = made-inv (w .first) (w .second) (third w) (w .priority) 0 r 0 (w .kind) (same-record (kindOf (w .kind)) w r 0 e)
 
 pub given-numbers : (w : Row) (r : Record) → given w ≡ some r → fieldsOf r ≡ numbersOf w
 given-numbers w r e = given-made w r e .numbers
 
 -- and the log can express it
-given-expressible : (w : Row) (r : Record) → given w ≡ some r → Small (w .first ∷ w .second ∷ limitField (w .limit) ∷ []) → Expressible r
+given-expressible : (w : Row) (r : Record) → given w ≡ some r → Small (rowFields w) → Expressible r
 given-expressible w r e h =
     let m = given-made w r e in
     let number : w .kind < numberBound = omega (arith, m .known) in
     record { small = rw (m .numbers) (number, small-take (fieldCount (kindOf (w .kind))) _ h); limited = m .limited }
 
--- the numbers of a row, in an array
-pub row-numbers : (w : Row) (k : Kind) (count field : ℕ) → k ≡ kindOf (w .kind) → count ≡ fieldCount k → field ≡ limitField (w .limit)
-    → Holds (w .kind ∷ w .first ∷ w .second ∷ field ∷ []) (count + 1) (numbersOf w)
-row-numbers w k count field p q r = record { within = omega (arith, q, count-few k); same = rw (q, p, r, add-one) }
+third-small : (k : Kind) (w : Row) → limitField (w .limit) ≤ limitBound → w .priority < numberBound → thirdOf k w < numberBound
+third-small kind.Get w l p = omega (arith, l)
+third-small kind.Poll w l p = omega arith
+third-small kind.Release w l p = omega arith
+third-small kind.Cancel w l p = omega arith
+third-small kind.Tick w l p = omega arith
+third-small kind.PriorityGet w l p = omega (arith, l)
+third-small kind.PriorityPoll w l p = p
+third-small kind.Unknown w l p = omega arith
 
--- at most four
-pub numbers-few : (w : Row) → length (numbersOf w) ≤ 4
-numbers-few w = omega (arith, length-take (fieldCount (kindOf (w .kind))) (w .first ∷ w .second ∷ limitField (w .limit) ∷ []), count-few (kindOf (w .kind)))
+-- the numbers of a row, in an array
+pub row-numbers : (w : Row) (k : Kind) (count field : ℕ) → k ≡ kindOf (w .kind) → count ≡ fieldCount k → field ≡ thirdOf k w
+    → Holds (w .kind ∷ w .first ∷ w .second ∷ field ∷ w .priority ∷ []) (count + 1) (numbersOf w)
+row-numbers w k count field p q r = record { within = omega (arith, q, count-few k); same = rw (q, r, p, add-one) }
+
+-- at most five
+pub numbers-few : (w : Row) → length (numbersOf w) ≤ 5
+numbers-few w = omega (arith, length-take (fieldCount (kindOf (w .kind))) (rowFields w), count-few (kindOf (w .kind)))
 
 pub holds-part : {values : List ℕ} {count : ℕ} {vs : List ℕ} → Holds values count vs → take (count - 0) values ≡ vs
 holds-part {values} {count} h = rw (sub-zero count) (h .same)
@@ -90,8 +107,10 @@ module _ (c : Columns) where
   given-all t i zero rs e = let q : [] ≡ rs = cc in rw (← q) tt
   given-all t i (suc k) rs e =
       let f = front (given (rowAt c i)) (givenFrom c (suc i) k) rs e in
-      rw (← f .whole)
-      (given-expressible (rowAt c i) (f .head) (f .first) (t .first i, (t .second i, (omega (arith, t .limit i), tt))), given-all t (suc i) k (f .tail) (f .rest))
+      rw (← f .whole) (
+        given-expressible (rowAt c i) (f .head) (f .first) (t .first i, (t .second i, (third-small (kindOf (rowAt c i .kind)) (rowAt c i) (t .limit i) (t .priority i), (t .priority i, tt)))),
+        given-all t (suc i) k (f .tail) (f .rest),
+      )
 
 -- ---- the columns of records
 
@@ -101,6 +120,8 @@ given-row (Poll task size) h = refl
 given-row (Release offset) h = refl
 given-row (Cancel task) h = refl
 given-row Tick h = refl
+given-row (PriorityGet task size limit priority) h = rw h
+given-row (PriorityPoll task size priority) h = refl
 
 given-shift : (r : Record) (rs : List Record) (i k : ℕ) → givenFrom (columnsOf (r ∷ rs)) (suc i) k ≡ givenFrom (columnsOf rs) i k
 unfolding givenFrom

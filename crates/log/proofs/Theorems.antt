@@ -29,8 +29,8 @@ module _ (s : List ℕ) (r : Record) (n : ℕ) (e : recordOf s ≡ Taken r n) wh
   pub record-expressible : Expressible r
   record-expressible = record { small = source-listed (source s r n e) .small; limited = source s r n e .makes .limited }
 
-  -- a record has at least one byte, at most 16, and no more than there are
-  pub record-length : (1 ≤ n) × (n ≤ 16) × (n ≤ length s)
+  -- a record has at least one byte, at most 21, and no more than there are
+  pub record-length : (1 ≤ n) × (n ≤ 21) × (n ≤ length s)
   record-length =
       let t = source s r n e in
       let one : t .first ≡ 1 = number-one s (t .number) (t .first) (t .kind) (omega (arith, t .makes .known)) in
@@ -38,5 +38,5 @@ module _ (s : List ℕ) (r : Record) (n : ℕ) (e : recordOf s ≡ Taken r n) wh
       (omega (arith, t .makes .place), omega (arith, t .makes .place, t .fields .most), source-listed t .inside)
 
 -- so is a record that is written
-pub encode-record-length : (r : Record) → Expressible r → (1 ≤ length (encodeRecord r)) × (length (encodeRecord r) ≤ 16)
+pub encode-record-length : (r : Record) → Expressible r → (1 ≤ length (encodeRecord r)) × (length (encodeRecord r) ≤ 21)
 encode-record-length r h = let l = record-length (encodeRecord r ++ []) r (length (encodeRecord r)) (record-encode r [] h) in (l .0, l .1)

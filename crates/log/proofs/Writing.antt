@@ -11,66 +11,77 @@ use lib.Dec.{leb, eqb}
 use lib.ListN.{length, drop, length-append}
 use borrow.Author.Tests.{le-leb, lt-leb, eq-eqb, eqb-true}
 use Rattle.model.specs.Limits.{e-ok, e-par, e-nomem}
+use Rattle.model.specs.Rules.{okOrder}
 use Rattle.model.proofs.Tests.{by, and-l, and-r, and-f-r}
-use Rattle.numbers.specs.Number.{encode, numberBound}
-use Rattle.numbers.specs.Wrote.{Wrote, fitted}
-use Rattle.numbers.proofs.Theorems.{encode-length}
-use Rattle.numbers.proofs.Wrote.{Writing, wrote-parts, writing-start, writing-next, writing-fitted, writing-end}
+use Rattle.numbers.specs.Wrote.{Wrote}
+use Rattle.numbers.proofs.Wrote.{Writing, wrote-parts, writing-start, writing-next, writing-end}
 use Rattle.log.specs.declared.Record.{Record}
 use Rattle.log.specs.declared.writer.Row.{Row}
 use Rattle.log.specs.declared.writer.Needed.the-variants.{Length, Refused}
 use Rattle.log.specs.Fields.{encodeFields, fieldsLength}
 use Rattle.log.specs.Record.{fieldsOf}
-use Rattle.log.specs.Log.{encodeRecords, logOf, recordsLength, logLength, inFront}
+use Rattle.log.specs.Log.{startBytes, encodeRecords, logOf, recordsLength, logLength, inFront}
 use Rattle.log.specs.Writer.{mostRecords, given, Columns, rowAt, givenFrom, level, writable, outcome, refusal, writeLog}
-use Rattle.log.specs.Steps.{Level, isSome, neededAfter, neededFor, numbersOf, Counted, rowsBytes}
+use Rattle.log.specs.Steps.{Level, Started, isSome, neededAfter, neededFor, numbersOf, Counted, rowsBytes}
 use Rattle.log.proofs.Logs.{no-some, length-records}
 use Rattle.log.proofs.Rows.{given-numbers, numbers-few, given-bytes}
 
 -- ---- the tests of the columns
 
-module _ (c : Columns) where
-  writable-many : mostRecords < length (c .kinds) → writable c ≡ none
-  unfolding writable
-  writable-many h = rw (lt-leb (length (c .kinds)) mostRecords h)
+pub level-open : (c : Columns) → level c ≡ true → Level c
+level-open c h =
+    let firsts = eqb (length (c .firsts)) (length (c .kinds)) in
+    let seconds = eqb (length (c .seconds)) (length (c .kinds)) in
+    let limits = eqb (length (c .limits)) (length (c .kinds)) in
+    let priorities = eqb (length (c .priorities)) (length (c .kinds)) in
+    let rest = and-r firsts (seconds && (limits && priorities)) h in
+    let last = and-r seconds (limits && priorities) rest in
+    record {
+      firsts = eqb-true _ _ (and-l firsts (seconds && (limits && priorities)) h);
+      seconds = eqb-true _ _ (and-l seconds (limits && priorities) rest);
+      limits = eqb-true _ _ (and-l limits priorities last);
+      priorities = eqb-true _ _ (and-r limits priorities last);
+    }
 
-  level-open : level c ≡ true → Level c
-  level-open h =
-      let firsts = eqb (length (c .firsts)) (length (c .kinds)) in
-      let seconds = eqb (length (c .seconds)) (length (c .kinds)) in
-      let both : firsts && seconds ≡ true = and-l (firsts && seconds) _ h in
-      record {
-        firsts = eqb-true _ _ (and-l firsts seconds both);
-        seconds = eqb-true _ _ (and-r firsts seconds both);
-        limits = eqb-true _ _ (and-r (firsts && seconds) _ h);
-      }
-
-  writable-uneven : (Level c → ⊥) → writable c ≡ none
+module _ (order : ℕ) (c : Columns) where
+  writable-unknown : okOrder order ≡ false → writable order c ≡ none
   unfolding writable
-  writable-uneven u = by (level c) (λ h. absurd (u (level-open h))) (λ h. rw (and-f-r (leb (length (c .kinds)) mostRecords) (level c) h))
+  writable-unknown h = rw h
 
-  pub writable-rows : Level c → length (c .kinds) ≤ mostRecords → writable c ≡ givenFrom c 0 (length (c .kinds))
+  writable-many : mostRecords < length (c .kinds) → writable order c ≡ none
   unfolding writable
-  writable-rows l h =
+  writable-many h = by (okOrder order) (λ k. rw (k, lt-leb (length (c .kinds)) mostRecords h)) (λ k. rw k)
+
+  writable-uneven : level c ≡ false → writable order c ≡ none
+  unfolding writable
+  writable-uneven h = by (okOrder order) (λ k. rw (k, and-f-r (leb (length (c .kinds)) mostRecords) (level c) h)) (λ k. rw k)
+
+  pub writable-rows : okOrder order ≡ true → Level c → length (c .kinds) ≤ mostRecords → writable order c ≡ givenFrom c 0 (length (c .kinds))
+  unfolding writable
+  writable-rows k l h =
       rw (
+        k,
         le-leb (length (c .kinds)) mostRecords h,
         eq-eqb (length (c .firsts)) (length (c .kinds)) (l .firsts),
         eq-eqb (length (c .seconds)) (length (c .kinds)) (l .seconds),
         eq-eqb (length (c .limits)) (length (c .kinds)) (l .limits),
+        eq-eqb (length (c .priorities)) (length (c .kinds)) (l .priorities),
       )
 
   -- what is to be written
   pub record Writable (rs : List Record) : Type 0 where
+    pub known : okOrder order ≡ true
     pub even : Level c
     pub rows : givenFrom c 0 (length (c .kinds)) ≡ some rs
 
-  pub writable-open : (rs : List Record) → writable c ≡ some rs → Writable rs
+  pub writable-open : (rs : List Record) → writable order c ≡ some rs → Writable rs
   unfolding writable
-  writable-open rs e = by (leb (length (c .kinds)) mostRecords && level c) tested (λ h. no-some (rw h at e))
+  writable-open rs e = by (okOrder order && (leb (length (c .kinds)) mostRecords && level c)) tested (λ h. no-some (rw h at e))
     where
-      tested : leb (length (c .kinds)) mostRecords && level c ≡ true → Writable rs
+      tested : okOrder order && (leb (length (c .kinds)) mostRecords && level c) ≡ true → Writable rs
       tested h = record {
-        even = level-open (and-r (leb (length (c .kinds)) mostRecords) (level c) h);
+        known = and-l (okOrder order) _ h;
+        even = level-open c (and-r (leb (length (c .kinds)) mostRecords) (level c) (and-r (okOrder order) _ h));
         rows = rw h at e;
       }
 
@@ -89,40 +100,43 @@ unfolding recordsLength
 needed-front m r none = refl
 needed-front m r (some rs) = rw (add-assoc m (fieldsLength (fieldsOf r)) (recordsLength rs))
 
-pub refused-many : (n : ℕ) (c : Columns) → mostRecords < length (c .kinds) → Refused ≡ neededFor n c
-refused-many n c h = rw (writable-many c h)
+pub refused-order : (n order : ℕ) (c : Columns) → okOrder order ≡ false → Refused ≡ neededFor n order c
+refused-order n order c h = rw (writable-unknown order c h)
 
-pub refused-uneven : (n : ℕ) (c : Columns) → (Level c → ⊥) → Refused ≡ neededFor n c
-refused-uneven n c u = rw (writable-uneven c u)
+pub refused-many : (n order : ℕ) (c : Columns) → mostRecords < length (c .kinds) → Refused ≡ neededFor n order c
+refused-many n order c h = rw (writable-many order c h)
+
+pub refused-uneven : (n order : ℕ) (c : Columns) → level c ≡ false → Refused ≡ neededFor n order c
+refused-uneven n order c u = rw (writable-uneven order c u)
 
 -- the first i rows are records, and the log has m bytes up to there
-pub record Measuring (n : ℕ) (c : Columns) (i m : ℕ) : Type 0 where
-  pub same : neededFor n c ≡ neededAfter m (givenFrom c i (length (c .kinds) - i))
+pub record Measuring (n order : ℕ) (c : Columns) (i m : ℕ) : Type 0 where
+  pub same : neededFor n order c ≡ neededAfter m (givenFrom c i (length (c .kinds) - i))
   pub even : Level c
   pub short : length (c .kinds) ≤ mostRecords
-  pub few : m ≤ 5 + 20 * i
+  pub few : m ≤ 6 + 25 * i
 
-pub measuring-start : (n : ℕ) (c : Columns) (m : ℕ) → Level c → length (c .kinds) ≤ mostRecords → n < numberBound → m ≡ length (encode n) → Measuring n c 0 m
-measuring-start n c m l h s e = record {
-  same = rw (writable-rows c l h, e, sub-zero (length (c .kinds)));
+pub measuring-start : (n order : ℕ) (c : Columns) (m : ℕ) → okOrder order ≡ true → Level c → length (c .kinds) ≤ mostRecords → Started n order m → Measuring n order c 0 m
+measuring-start n order c m k l h s = record {
+  same = rw (writable-rows order c k l h, s .bytes, sub-zero (length (c .kinds)));
   even = l;
   short = h;
-  few = omega (arith, encode-length n s);
+  few = s .few;
 }
 
-module _ {n : ℕ} {c : Columns} {i m : ℕ} (g : Measuring n c i m) where
+module _ {n order : ℕ} {c : Columns} {i m : ℕ} (g : Measuring n order c i m) where
   module _ (here : i < length (c .kinds)) {w : Row} (row : w ≡ rowAt c i) where
     abbrev left : Option (List Record)
     left = givenFrom c (i + 1) (length (c .kinds) - (i + 1))
 
-    next : neededFor n c ≡ neededAfter m (inFront (given w) left)
+    next : neededFor n order c ≡ neededAfter m (inFront (given w) left)
     unfolding givenFrom
     next = let k : length (c .kinds) - i ≡ suc (length (c .kinds) - (i + 1)) = omega arith in g .same ∙ rw (k, row, add-one i)
 
-    pub measuring-refused : isSome (given w) ≡ false → Refused ≡ neededFor n c
+    pub measuring-refused : isSome (given w) ≡ false → Refused ≡ neededFor n order c
     measuring-refused e = sym (next ∙ rw (none-open (given w) e))
 
-    pub measuring-next : isSome (given w) ≡ true → (b : ℕ) → Counted (numbersOf w) b → Measuring n c (i + 1) (m + b)
+    pub measuring-next : isSome (given w) ≡ true → (b : ℕ) → Counted (numbersOf w) b → Measuring n order c (i + 1) (m + b)
     measuring-next e b count =
         let x = some-open (given w) e in
         record {
@@ -132,7 +146,7 @@ module _ {n : ℕ} {c : Columns} {i m : ℕ} (g : Measuring n c i m) where
           few = omega (arith, g .few, count .few, numbers-few w);
         }
 
-  pub measuring-end : length (c .kinds) ≤ i → Length m ≡ neededFor n c
+  pub measuring-end : length (c .kinds) ≤ i → Length m ≡ neededFor n order c
   unfolding givenFrom recordsLength
   measuring-end h = let k : length (c .kinds) - i ≡ 0 = omega arith in sym (g .same ∙ rw (k, add-zero m))
 
@@ -149,54 +163,57 @@ module _ (c : Columns) (k i : ℕ) where
 
 -- ---- the whole log
 
-pub length-log : (n : ℕ) (rs : List Record) → length (logOf n rs) ≡ logLength n rs
-length-log n rs = length-append (encode n) (encodeRecords rs) ∙ rw (length-records rs)
+pub length-log : (n order : ℕ) (rs : List Record) → length (logOf n order rs) ≡ logLength n order rs
+length-log n order rs = length-append (startBytes n order) (encodeRecords rs) ∙ rw (length-records rs)
 
-module _ (n : ℕ) (c : Columns) where
-  needs-none : (x : Option (List Record)) → neededAfter (length (encode n)) x ≡ Refused → x ≡ none
+module _ (n order : ℕ) (c : Columns) where
+  needs-none : (x : Option (List Record)) → neededAfter (length (startBytes n order)) x ≡ Refused → x ≡ none
   needs-none none e = refl
   needs-none (some rs) e = absurd (let z : _≡_ {A = ℕ} 0 1 = cc in omega arith)
 
-  pub write-refused : (buf : List ℕ) → neededFor n c ≡ Refused → outcome (refusal e-par) buf ≡ writeLog n c buf
-  write-refused buf e = rw (needs-none (writable c) e)
+  pub write-refused : (buf : List ℕ) → neededFor n order c ≡ Refused → outcome (refusal e-par) buf ≡ writeLog n order c buf
+  write-refused buf e = rw (needs-none (writable order c) e)
 
   -- the records of a log of m bytes
   pub record Measured (m : ℕ) : Type 0 where
     pub records : List Record
-    pub same : writable c ≡ some records
-    pub size : m ≡ logLength n records
+    pub same : writable order c ≡ some records
+    pub size : m ≡ logLength n order records
 
-  needs-some : (m : ℕ) (x : Option (List Record)) → writable c ≡ x → neededAfter (length (encode n)) x ≡ Length m → Measured m
+  needs-some : (m : ℕ) (x : Option (List Record)) → writable order c ≡ x → neededAfter (length (startBytes n order)) x ≡ Length m → Measured m
   needs-some m none q e = absurd (let z : _≡_ {A = ℕ} 0 1 = cc in omega arith)
   needs-some m (some rs) q e = record { records = rs; same = q; size = cc }
 
-  pub measured : (m : ℕ) → neededFor n c ≡ Length m → Measured m
-  measured m = needs-some m (writable c) refl
+  pub measured : (m : ℕ) → neededFor n order c ≡ Length m → Measured m
+  measured m = needs-some m (writable order c) refl
 
-module _ {n : ℕ} {c : Columns} {m : ℕ} (g : Measured n c m) (buf : List ℕ) where
+module _ {n order : ℕ} {c : Columns} {m : ℕ} (g : Measured n order c m) (buf : List ℕ) where
   abbrev log : List ℕ
-  log = logOf n (g .records)
+  log = logOf n order (g .records)
 
   abbrev rows : List ℕ
   rows = rowsBytes c 0 (length (c .kinds))
 
   size-log : m ≡ length log
-  size-log = g .size ∙ sym (length-log n (g .records))
+  size-log = g .size ∙ sym (length-log n order (g .records))
 
-  pub write-short : length buf < m → outcome (refusal e-nomem) buf ≡ writeLog n c buf
+  pub write-short : length buf < m → outcome (refusal e-nomem) buf ≡ writeLog n order c buf
   write-short h = rw (g .same, ← g .size, lt-leb m (length buf) h)
 
-  module _ (fits : m ≤ length buf) {after : List ℕ} {start : ℕ} (number : Wrote buf 0 (fitted buf 0 (encode n)) after start) where
-    -- behind the pool's length the rows are left to write
+  pub start-fits : m ≤ length buf → length (startBytes n order) ≤ length buf
+  start-fits h = omega (arith, h, g .size)
+
+  module _ (fits : m ≤ length buf) {after : List ℕ} {start : ℕ} (number : Wrote buf 0 (startBytes n order) after start) where
+    -- behind the start the rows are left to write
     rest : Writing buf 0 log after start rows
     rest =
-        rw (given-bytes c 0 (length (c .kinds)) (g .records) (writable-open c (g .records) (g .same) .rows))
-        (writing-fitted (writing-start buf 0 log (omega (arith, size-log))) (encode n) (encodeRecords (g .records)) refl number)
+        rw (given-bytes c 0 (length (c .kinds)) (g .records) (writable-open order c (g .records) (g .same) .rows))
+        (writing-next (writing-start buf 0 log (omega (arith, size-log))) (encodeRecords (g .records)) refl number)
 
     pub rows-fit : Level c × (start + length rows ≤ length after)
-    rows-fit = (writable-open c (g .records) (g .same) .even, omega (arith, rest .place, rest .same, rest .fits))
+    rows-fit = (writable-open order c (g .records) (g .same) .even, omega (arith, rest .place, rest .same, rest .fits))
 
-    pub write-done : {last : List ℕ} {end : ℕ} → Wrote after start rows last end → outcome (record { code = e-ok; length = end }) last ≡ writeLog n c buf
+    pub write-done : {last : List ℕ} {end : ℕ} → Wrote after start rows last end → outcome (record { code = e-ok; length = end }) last ≡ writeLog n order c buf
     write-done {last} {end} w =
         let whole : Wrote buf 0 log last end = writing-end (writing-next rest [] (sym (append-nil rows)) w) refl in
         let long : end ≡ length log = whole .place ∙ zero-add (length log) in

@@ -10,7 +10,7 @@ use Rattle.numbers.specs.declared.Number.{Number}
 use Rattle.numbers.specs.declared.Number.the-variants.{Value, Refused}
 use Rattle.numbers.specs.Number.{numberOf}
 use Rattle.log.specs.declared.Record.{Record}
-use Rattle.log.specs.declared.Record.the-variants.{Get, Poll, Release, Cancel, Tick}
+use Rattle.log.specs.declared.Record.the-variants.{Get, Poll, Release, Cancel, Tick, PriorityGet, PriorityPoll}
 use Rattle.log.specs.declared.Kind.{Kind}
 use Rattle.log.specs.declared.Kind.the-variants as kind
 use Rattle.log.specs.declared.Read.{Read}
@@ -37,10 +37,12 @@ fieldsOf (Poll task size) = 2 ∷ task ∷ size ∷ []
 fieldsOf (Release offset) = 3 ∷ offset ∷ []
 fieldsOf (Cancel task) = 4 ∷ task ∷ []
 fieldsOf Tick = 5 ∷ []
+fieldsOf (PriorityGet task size limit priority) = 6 ∷ task ∷ size ∷ limitField limit ∷ priority ∷ []
+fieldsOf (PriorityPoll task size priority) = 7 ∷ task ∷ size ∷ priority ∷ []
 
 -- the kinds in the order of their numbers, from 0 on
 abbrev pub kinds : List Kind
-kinds = kind.Unknown ∷ kind.Get ∷ kind.Poll ∷ kind.Release ∷ kind.Cancel ∷ kind.Tick ∷ []
+kinds = kind.Unknown ∷ kind.Get ∷ kind.Poll ∷ kind.Release ∷ kind.Cancel ∷ kind.Tick ∷ kind.PriorityGet ∷ kind.PriorityPoll ∷ []
 
 abbrev pub kindOf : ℕ → Kind
 kindOf n = getD kinds n kind.Unknown
@@ -52,20 +54,28 @@ fieldCount kind.Poll = 2
 fieldCount kind.Release = 1
 fieldCount kind.Cancel = 1
 fieldCount kind.Tick = 0
+fieldCount kind.PriorityGet = 4
+fieldCount kind.PriorityPoll = 3
 fieldCount kind.Unknown = 0
 
--- the record of a kind with the fields a, b and c, as many as the kind has, and the place after it
-abbrev pub recordFrom : Kind → ℕ → ℕ → ℕ → ℕ → Read
-recordFrom kind.Get task size limit n = cond (leb limit limitBound) (Taken (Get task size (limitOf limit)) n) Bad
-recordFrom kind.Poll task size c n = Taken (Poll task size) n
-recordFrom kind.Release offset b c n = Taken (Release offset) n
-recordFrom kind.Cancel task b c n = Taken (Cancel task) n
-recordFrom kind.Tick a b c n = Taken Tick n
-recordFrom kind.Unknown a b c n = Bad
+-- a record with a limit field, which may be too great
+abbrev pub limitedBy : ℕ → Read → Read
+limitedBy limit x = cond (leb limit limitBound) x Bad
+
+-- the record of a kind with the fields a, b, c and d, as many as the kind has, and the place after it
+abbrev pub recordFrom : Kind → ℕ → ℕ → ℕ → ℕ → ℕ → Read
+recordFrom kind.Get task size limit d n = limitedBy limit (Taken (Get task size (limitOf limit)) n)
+recordFrom kind.Poll task size c d n = Taken (Poll task size) n
+recordFrom kind.Release offset b c d n = Taken (Release offset) n
+recordFrom kind.Cancel task b c d n = Taken (Cancel task) n
+recordFrom kind.Tick a b c d n = Taken Tick n
+recordFrom kind.PriorityGet task size limit priority n = limitedBy limit (Taken (PriorityGet task size (limitOf limit) priority) n)
+recordFrom kind.PriorityPoll task size priority d n = Taken (PriorityPoll task size priority) n
+recordFrom kind.Unknown a b c d n = Bad
 
 -- the same of the fields that were read
 abbrev pub made : Kind → Fields → Read
-made k (Fields·read fs n) = recordFrom k (getD fs 0 0) (getD fs 1 0) (getD fs 2 0) n
+made k (Fields·read fs n) = recordFrom k (getD fs 0 0) (getD fs 1 0) (getD fs 2 0) (getD fs 3 0) n
 made k Fields·refused = Bad
 
 -- the record after the number of its kind
@@ -93,6 +103,8 @@ Limited (Poll task size) = Unit {0}
 Limited (Release offset) = Unit {0}
 Limited (Cancel task) = Unit {0}
 Limited Tick = Unit {0}
+Limited (PriorityGet task size limit priority) = isLimit limit ≡ true
+Limited (PriorityPoll task size priority) = Unit {0}
 
 -- what the log can express
 pub record Expressible (r : Record) : Type 0 where

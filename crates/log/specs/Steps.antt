@@ -5,14 +5,15 @@ use mathlib.Core.Bool.{Bool, true, false}
 use mathlib.Core.List.{List, [], _∷_, _++_}
 use mathlib.Core.Option.{Option, none, some}
 use lib.ListN.{length, take}
-use Rattle.numbers.specs.Number.{encode}
 use Rattle.log.specs.declared.Record.{Record}
+use Rattle.log.specs.declared.Kind.{Kind}
+use Rattle.log.specs.declared.Kind.the-variants as kind
 use Rattle.log.specs.declared.writer.Row.{Row}
 use Rattle.log.specs.declared.writer.Needed.{Needed}
 use Rattle.log.specs.declared.writer.Needed.the-variants.{Length, Refused}
 use Rattle.log.specs.Fields.{encodeFields, fieldsLength}
 use Rattle.log.specs.Record.{limitField, kindOf, fieldCount}
-use Rattle.log.specs.Log.{recordsLength}
+use Rattle.log.specs.Log.{startBytes, recordsLength}
 use Rattle.log.specs.Writer.{Columns, rowAt, writable}
 
 -- the columns are equally long
@@ -20,6 +21,7 @@ pub record Level (c : Columns) : Type 0 where
   pub firsts : length (c .firsts) ≡ length (c .kinds)
   pub seconds : length (c .seconds) ≡ length (c .kinds)
   pub limits : length (c .limits) ≡ length (c .kinds)
+  pub priorities : length (c .priorities) ≡ length (c .kinds)
 
 -- whether there is a record
 abbrev pub isSome : Option Record → Bool
@@ -32,12 +34,32 @@ neededAfter m none = Refused
 neededAfter m (some rs) = Length (m + recordsLength rs)
 
 -- the length of the log, where it can be written
-abbrev pub neededFor : ℕ → Columns → Needed
-neededFor n c = neededAfter (length (encode n)) (writable c)
+abbrev pub neededFor : ℕ → ℕ → Columns → Needed
+neededFor n order c = neededAfter (length (startBytes n order)) (writable order c)
+
+-- the start of a log has r bytes, at most five for the pool's length and one for the order
+pub record Started (n order r : ℕ) : Type 0 where
+  pub bytes : r ≡ length (startBytes n order)
+  pub few : r ≤ 6
+
+-- the third field of a row, 0 where its kind has none
+abbrev pub thirdOf : Kind → Row → ℕ
+thirdOf kind.Get w = limitField (w .limit)
+thirdOf kind.Poll w = 0
+thirdOf kind.Release w = 0
+thirdOf kind.Cancel w = 0
+thirdOf kind.Tick w = 0
+thirdOf kind.PriorityGet w = limitField (w .limit)
+thirdOf kind.PriorityPoll w = w .priority
+thirdOf kind.Unknown w = 0
+
+-- the fields of a row, first those that its kind has
+abbrev pub rowFields : Row → List ℕ
+rowFields w = w .first ∷ w .second ∷ thirdOf (kindOf (w .kind)) w ∷ w .priority ∷ []
 
 -- the numbers of a row: that of its kind, then the fields that the kind has
 abbrev pub numbersOf : Row → List ℕ
-numbersOf w = w .kind ∷ take (fieldCount (kindOf (w .kind))) (w .first ∷ w .second ∷ limitField (w .limit) ∷ [])
+numbersOf w = w .kind ∷ take (fieldCount (kindOf (w .kind))) (rowFields w)
 
 -- the first `count` of the values are the numbers vs
 pub record Holds (values : List ℕ) (count : ℕ) (vs : List ℕ) : Type 0 where

@@ -7,9 +7,10 @@ use lib.Dec.{leb, eqb}
 use lib.IntN.{ℤ, pos}
 use lib.ListN.{length, drop, getD}
 use Rattle.model.specs.Limits.{e-ok, e-par, e-nomem}
+use Rattle.model.specs.Rules.{okOrder}
 use Rattle.numbers.specs.Number.{numberBound}
 use Rattle.log.specs.declared.Record.{Record}
-use Rattle.log.specs.declared.Record.the-variants.{Get, Poll, Release, Cancel, Tick}
+use Rattle.log.specs.declared.Record.the-variants.{Get, Poll, Release, Cancel, Tick, PriorityGet, PriorityPoll}
 use Rattle.log.specs.declared.Kind.{Kind}
 use Rattle.log.specs.declared.Kind.the-variants as kind
 pub use Rattle.log.specs.declared.writer.Row.{Row}
@@ -30,6 +31,8 @@ givenAs kind.Poll w = some (Poll (w .first) (w .second))
 givenAs kind.Release w = some (Release (w .first))
 givenAs kind.Cancel w = some (Cancel (w .first))
 givenAs kind.Tick w = some Tick
+givenAs kind.PriorityGet w = cond (isLimit (w .limit)) (some (PriorityGet (w .first) (w .second) (w .limit) (w .priority))) none
+givenAs kind.PriorityPoll w = some (PriorityPoll (w .first) (w .second) (w .priority))
 givenAs kind.Unknown w = none
 
 abbrev pub given : Row → Option Record
@@ -41,12 +44,20 @@ pub record Columns : Type 0 where
   pub firsts : List ℕ
   pub seconds : List ℕ
   pub limits : List ℤ
+  pub priorities : List ℕ
 
-abbrev pub columns : (kinds firsts seconds : List ℕ) → List ℤ → Columns
-columns kinds firsts seconds limits = record { kinds = kinds; firsts = firsts; seconds = seconds; limits = limits }
+abbrev pub columns : (kinds firsts seconds : List ℕ) → List ℤ → List ℕ → Columns
+columns kinds firsts seconds limits priorities = record { kinds = kinds; firsts = firsts; seconds = seconds; limits = limits; priorities = priorities }
 
 abbrev pub rowAt : Columns → ℕ → Row
-rowAt c i = record { kind = getD (c .kinds) i 0; first = getD (c .firsts) i 0; second = getD (c .seconds) i 0; limit = getD (c .limits) i (pos 0) }
+rowAt c i =
+    record {
+      kind = getD (c .kinds) i 0;
+      first = getD (c .firsts) i 0;
+      second = getD (c .seconds) i 0;
+      limit = getD (c .limits) i (pos 0);
+      priority = getD (c .priorities) i 0;
+    }
 
 -- the records of the k rows from the place i on; none where one of them has none
 unfoldable pub givenFrom : Columns → (i k : ℕ) → Option (List Record)
@@ -55,11 +66,15 @@ givenFrom c i (suc k) = inFront (given (rowAt c i)) (givenFrom c (suc i) k)
 
 -- the columns are equally long
 abbrev pub level : Columns → Bool
-level c = eqb (length (c .firsts)) (length (c .kinds)) && eqb (length (c .seconds)) (length (c .kinds)) && eqb (length (c .limits)) (length (c .kinds))
+level c =
+    eqb (length (c .firsts)) (length (c .kinds))
+    && (eqb (length (c .seconds)) (length (c .kinds))
+    && (eqb (length (c .limits)) (length (c .kinds))
+    && eqb (length (c .priorities)) (length (c .kinds))))
 
--- the records to be written; none where the columns are not level, there are too many records, or the log can't express one
-unfoldable pub writable : Columns → Option (List Record)
-writable c = cond (leb (length (c .kinds)) mostRecords && level c) (givenFrom c 0 (length (c .kinds))) none
+-- the records to be written; none where the order is unknown, the columns are not level, there are too many records, or the log can't express one
+unfoldable pub writable : ℕ → Columns → Option (List Record)
+writable order c = cond (okOrder order && (leb (length (c .kinds)) mostRecords && level c)) (givenFrom c 0 (length (c .kinds))) none
 
 -- ---- what is answered, and the buffer
 
@@ -79,31 +94,35 @@ abbrev pub stored : List ℕ → List ℕ → Outcome
 stored log buf = outcome (record { code = e-ok; length = length log }) (log ++ drop (length log) buf)
 
 -- the log is written where the buffer holds it; a refusal keeps every byte
-abbrev pub writeRecords : ℕ → Option (List Record) → List ℕ → Outcome
-writeRecords n none buf = outcome (refusal e-par) buf
-writeRecords n (some rs) buf = cond (leb (logLength n rs) (length buf)) (stored (logOf n rs) buf) (outcome (refusal e-nomem) buf)
+abbrev pub writeRecords : ℕ → ℕ → Option (List Record) → List ℕ → Outcome
+writeRecords n order none buf = outcome (refusal e-par) buf
+writeRecords n order (some rs) buf = cond (leb (logLength n order rs) (length buf)) (stored (logOf n order rs) buf) (outcome (refusal e-nomem) buf)
 
-abbrev pub writeLog : ℕ → Columns → List ℕ → Outcome
-writeLog n c buf = writeRecords n (writable c) buf
+abbrev pub writeLog : ℕ → ℕ → Columns → List ℕ → Outcome
+writeLog n order c buf = writeRecords n order (writable order c) buf
 
 -- ---- columns of records
 
 -- a row of a record, zeros in the fields that its kind does not have
-abbrev pub row : (kind first second : ℕ) → ℤ → Row
-row kind first second limit = record { kind = kind; first = first; second = second; limit = limit }
+abbrev pub row : (kind first second : ℕ) → ℤ → ℕ → Row
+row kind first second limit priority = record { kind = kind; first = first; second = second; limit = limit; priority = priority }
 
 abbrev pub rowOf : Record → Row
-rowOf (Get task size limit) = row 1 task size limit
-rowOf (Poll task size) = row 2 task size (pos 0)
-rowOf (Release offset) = row 3 offset 0 (pos 0)
-rowOf (Cancel task) = row 4 task 0 (pos 0)
-rowOf Tick = row 5 0 0 (pos 0)
+rowOf (Get task size limit) = row 1 task size limit 0
+rowOf (Poll task size) = row 2 task size (pos 0) 0
+rowOf (Release offset) = row 3 offset 0 (pos 0) 0
+rowOf (Cancel task) = row 4 task 0 (pos 0) 0
+rowOf Tick = row 5 0 0 (pos 0) 0
+rowOf (PriorityGet task size limit priority) = row 6 task size limit priority
+rowOf (PriorityPoll task size priority) = row 7 task size (pos 0) priority
 
 abbrev pub columnsOf : List Record → Columns
-columnsOf rs = columns (map (λ r. rowOf r .kind) rs) (map (λ r. rowOf r .first) rs) (map (λ r. rowOf r .second) rs) (map (λ r. rowOf r .limit) rs)
+columnsOf rs =
+    columns (map (λ r. rowOf r .kind) rs) (map (λ r. rowOf r .first) rs) (map (λ r. rowOf r .second) rs) (map (λ r. rowOf r .limit) rs) (map (λ r. rowOf r .priority) rs)
 
--- what the types of the code say of the columns: first and second fields are below 2^32, limits below 2^31
+-- what the types of the code say of the columns: first and second fields and priorities are below 2^32, limits below 2^31
 pub record Typed (c : Columns) : Type 0 where
   pub first : (i : ℕ) → getD (c .firsts) i 0 < numberBound
   pub second : (i : ℕ) → getD (c .seconds) i 0 < numberBound
   pub limit : (i : ℕ) → limitField (getD (c .limits) i (pos 0)) ≤ limitBound
+  pub priority : (i : ℕ) → getD (c .priorities) i 0 < numberBound

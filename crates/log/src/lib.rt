@@ -1,9 +1,11 @@
-// The log of calls: first the pool's length, then records.
+// The log of calls: first the pool's length and order, then records.
+use model::FIFO_ORDER;
+use model::PRIORITY_ORDER;
 use numbers::Number;
 ghost use mathlib.Core.Path.{_≡_};
 ghost use Prim.Native.Nat.{_≤_};
-ghost use Rattle.numbers.specs.Number.{numberOf};
 ghost use Rattle.log.specs.Record.{kindOf, fieldCount, limitOf, limitBound, recordFrom, recordOf};
+ghost use Rattle.log.specs.Log.{startOf};
 
 pub mod writer;
 
@@ -17,10 +19,20 @@ pub enum Record {
     // task
     Cancel(u32),
     Tick,
+    // a get and a poll with a priority: task, size, limit, priority; task, size, priority
+    PriorityGet(u32, u32, i32, u32),
+    PriorityPoll(u32, u32, u32),
 }
 
 // The most bytes of a log that is replayed.
 pub const LONGEST_LOG: usize = 65536;
+
+// What a log begins with.
+pub enum Start {
+    // the pool's length and order, and the place of the first record
+    Taken(u32, u16, usize),
+    Bad,
+}
 
 // What stands at the start of the rest of a log.
 pub enum Read {
@@ -30,24 +42,39 @@ pub enum Read {
     Bad,
 }
 
-// The kinds of record. Their numbers are 1 to 5 in this order.
+// The kinds of record. Their numbers are 1 to 7 in this order.
 enum Kind {
     Get,
     Poll,
     Release,
     Cancel,
     Tick,
+    PriorityGet,
+    PriorityPoll,
     Unknown,
 }
 
 // A limit field, which is the limit plus 1, is at most 2^31.
 const LIMIT_BOUND: u32 = 2147483648;
 
-// The pool's length, at the start of a log.
-pub fn read_length(log: &[u8]) -> Number
-    ensures { λ r. ⌜ r ≡ numberOf (now (log .entry)) ⌝ }
+// Record 8, which has no fields and stands only directly behind the pool's length: the pool's order is by priority.
+const ORDER_MARK: u32 = 8;
+
+// The pool's length and order, at the start of a log.
+pub fn read_start(log: &[u8]) -> Start
+    ensures { λ r. ⌜ r ≡ startOf (now (log .entry)) ⌝ }
 {
-    numbers::read_number(log)
+    let Number::Value(n, size) = numbers::read_number(log) else {
+        return Start::Bad;
+    };
+    let next = numbers::read_number(&log[size..]);
+    let Number::Value(mark, count) = next else {
+        return Start::Taken(n, FIFO_ORDER, size);
+    };
+    if mark != ORDER_MARK {
+        return Start::Taken(n, FIFO_ORDER, size);
+    }
+    Start::Taken(n, PRIORITY_ORDER, size + count)
 }
 
 // The record at the start of the rest of a log.
@@ -62,7 +89,7 @@ pub fn read_record(rest: &[u8]) -> Read
     };
     let kind = kind_of(number);
     let count = field_count(kind);
-    let mut fields = [0u32; 3];
+    let mut fields = [0u32; 4];
     let mut at = first;
     let mut i: usize = 0;
     while i < count {
@@ -73,7 +100,7 @@ pub fn read_record(rest: &[u8]) -> Read
         at += n;
         i += 1;
     }
-    record_from(kind, fields[0], fields[1], fields[2], at)
+    record_from(kind, fields[0], fields[1], fields[2], fields[3], at)
 }
 
 fn kind_of(number: u32) -> Kind
@@ -85,6 +112,8 @@ fn kind_of(number: u32) -> Kind
         3 => Kind::Release,
         4 => Kind::Cancel,
         5 => Kind::Tick,
+        6 => Kind::PriorityGet,
+        7 => Kind::PriorityPoll,
         _ => Kind::Unknown,
     }
 }
@@ -99,13 +128,15 @@ fn field_count(kind: Kind) -> usize
         Kind::Release => 1,
         Kind::Cancel => 1,
         Kind::Tick => 0,
+        Kind::PriorityGet => 4,
+        Kind::PriorityPoll => 3,
         Kind::Unknown => 0,
     }
 }
 
-// The record of a kind with the fields a, b and c, as many as the kind has, and the place after it.
-fn record_from(kind: Kind, a: u32, b: u32, c: u32, after: usize) -> Read
-    ensures { λ r. ⌜ r ≡ recordFrom kind a b c after ⌝ }
+// The record of a kind with the fields a, b, c and d, as many as the kind has, and the place after it.
+fn record_from(kind: Kind, a: u32, b: u32, c: u32, d: u32, after: usize) -> Read
+    ensures { λ r. ⌜ r ≡ recordFrom kind a b c d after ⌝ }
 {
     match kind {
         Kind::Get => {
@@ -118,6 +149,13 @@ fn record_from(kind: Kind, a: u32, b: u32, c: u32, after: usize) -> Read
         Kind::Release => Read::Taken(Record::Release(a), after),
         Kind::Cancel => Read::Taken(Record::Cancel(a), after),
         Kind::Tick => Read::Taken(Record::Tick, after),
+        Kind::PriorityGet => {
+            if LIMIT_BOUND < c {
+                return Read::Bad;
+            }
+            Read::Taken(Record::PriorityGet(a, b, limit_of(c), d), after)
+        }
+        Kind::PriorityPoll => Read::Taken(Record::PriorityPoll(a, b, c), after),
         Kind::Unknown => Read::Bad,
     }
 }

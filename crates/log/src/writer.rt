@@ -1,15 +1,18 @@
-// The log writer: a pool's length and records, given in columns, are written into a lent buffer.
+// The log writer: a pool's length and order and records, given in columns, are written into a lent buffer.
 use crate::Kind;
 use model::E_NOMEM;
 use model::E_PAR;
+use model::FIFO_ORDER;
+use model::PRIORITY_ORDER;
 ghost use mathlib.Core.Path.{_≡_};
 ghost use Prim.Native.Nat.{_+_, _≤_, _<_};
 ghost use lib.ListN.{length};
 ghost use Rattle.numbers.specs.Wrote.{Wrote};
 ghost use Rattle.log.specs.Fields.{encodeFields};
 ghost use Rattle.log.specs.Record.{limitField};
-ghost use Rattle.log.specs.Writer.{given, columns, rowAt, outcome, refusal, writeLog};
-ghost use Rattle.log.specs.Steps.{Level, isSome, neededFor, numbersOf, Holds, Counted, rowsBytes};
+ghost use Rattle.log.specs.Writer.{given, columns, level, rowAt, outcome, refusal, writeLog};
+ghost use Rattle.log.specs.Log.{startBytes};
+ghost use Rattle.log.specs.Steps.{Level, Started, isSome, neededFor, thirdOf, numbersOf, Holds, Counted, rowsBytes};
 
 // The most records of a log that is written.
 pub const MOST_RECORDS: usize = 4096;
@@ -26,11 +29,12 @@ struct Row {
     first: u32,
     second: u32,
     limit: i32,
+    priority: u32,
 }
 
 // The numbers of a record: the first `count` of the values.
 struct Numbers {
-    values: [u32; 4],
+    values: [u32; 5],
     count: usize,
 }
 
@@ -41,29 +45,31 @@ enum Needed {
     Refused,
 }
 
-// Writes the log of the pool's length n and of the records in the columns, one at each place: its kind, its first and second field (a get's or poll's
-// task and size, a release's offset, a cancel's task) and a get's limit. A record that the log can't express, columns of unequal length and more
-// than MOST_RECORDS records are E_PAR, then a buffer too short is E_NOMEM; either keeps every byte.
+// Writes the log of the pool's length n and order and of the records in the columns, one at each place: its kind, its first and second field (a get's or
+// poll's task and size, a release's offset, a cancel's task), a get's limit and the priority of the kinds 6 and 7. An unknown order, a record that the log
+// can't express, columns of unequal length and more than MOST_RECORDS records are E_PAR, then a buffer too short is E_NOMEM; either keeps every byte.
 pub fn write_log(
     buf: &mut [u8],
     n: u32,
+    order: u16,
     kinds: &[u32],
     firsts: &[u32],
     seconds: &[u32],
     limits: &[i32],
+    priorities: &[u32],
 ) -> Written
     ensures { λ r. ⌜ outcome r (now (buf .exit))
-        ≡ writeLog n (columns (now (kinds .entry)) (now (firsts .entry)) (now (seconds .entry)) (now (limits .entry))) (now (buf .entry)) ⌝ }
+        ≡ writeLog n order (columns (now (kinds .entry)) (now (firsts .entry)) (now (seconds .entry)) (now (limits .entry)) (now (priorities .entry))) (now (buf .entry)) ⌝ }
 {
-    let needed = log_length(n, kinds, firsts, seconds, limits);
+    let needed = log_length(n, order, kinds, firsts, seconds, limits, priorities);
     let Needed::Length(length) = needed else {
         return refuse(E_PAR);
     };
     if buf.len() < length {
         return refuse(E_NOMEM);
     }
-    let start = numbers::write_number(buf, 0, n);
-    let end = write_rows(buf, start, kinds, firsts, seconds, limits);
+    let start = write_start(buf, n, order);
+    let end = write_rows(buf, start, kinds, firsts, seconds, limits, priorities);
     Written {
         code: 0,
         length: end,
@@ -79,27 +85,47 @@ fn refuse(code: i32) -> Written
     }
 }
 
-// The length of the log, or that it is refused.
-fn log_length(n: u32, kinds: &[u32], firsts: &[u32], seconds: &[u32], limits: &[i32]) -> Needed
-    ensures { λ r. ⌜ r ≡ neededFor n (columns (now (kinds .entry)) (now (firsts .entry)) (now (seconds .entry)) (now (limits .entry))) ⌝ }
+// Whether the columns are equally long.
+fn are_level(
+    kinds: &[u32],
+    firsts: &[u32],
+    seconds: &[u32],
+    limits: &[i32],
+    priorities: &[u32],
+) -> bool
+    ensures { λ r. ⌜ r ≡ level (columns (now (kinds .entry)) (now (firsts .entry)) (now (seconds .entry)) (now (limits .entry)) (now (priorities .entry))) ⌝ }
 {
+    let count = kinds.len();
+    (firsts.len() == count)
+        & ((seconds.len() == count) & ((limits.len() == count) & (priorities.len() == count)))
+}
+
+// The length of the log, or that it is refused.
+fn log_length(
+    n: u32,
+    order: u16,
+    kinds: &[u32],
+    firsts: &[u32],
+    seconds: &[u32],
+    limits: &[i32],
+    priorities: &[u32],
+) -> Needed
+    ensures { λ r. ⌜ r ≡ neededFor n order (columns (now (kinds .entry)) (now (firsts .entry)) (now (seconds .entry)) (now (limits .entry)) (now (priorities .entry))) ⌝ }
+{
+    if !((order == FIFO_ORDER) | (order == PRIORITY_ORDER)) {
+        return Needed::Refused;
+    }
     let count = kinds.len();
     if MOST_RECORDS < count {
         return Needed::Refused;
     }
-    if firsts.len() != count {
+    if !are_level(kinds, firsts, seconds, limits, priorities) {
         return Needed::Refused;
     }
-    if seconds.len() != count {
-        return Needed::Refused;
-    }
-    if limits.len() != count {
-        return Needed::Refused;
-    }
-    let mut length = numbers::number_length(n);
+    let mut length = start_length(n, order);
     let mut i: usize = 0;
     while i < count {
-        let row = row_at(kinds, firsts, seconds, limits, i);
+        let row = row_at(kinds, firsts, seconds, limits, priorities, i);
         if !is_given(row) {
             return Needed::Refused;
         }
@@ -107,6 +133,29 @@ fn log_length(n: u32, kinds: &[u32], firsts: &[u32], seconds: &[u32], limits: &[
         i += 1;
     }
     Needed::Length(length)
+}
+
+// How many bytes the start of a log has.
+fn start_length(n: u32, order: u16) -> usize
+    ensures { λ r. ⌜ Started n order r ⌝ }
+{
+    let length = numbers::number_length(n);
+    if order == PRIORITY_ORDER {
+        return length + numbers::number_length(crate::ORDER_MARK);
+    }
+    length
+}
+
+// Writes the start of a log, and answers the place after it.
+fn write_start(buf: &mut [u8], n: u32, order: u16) -> usize
+    requires { ⌜ length (startBytes n order) ≤ length (now buf) ⌝ }
+    ensures { λ r. ⌜ Wrote (now (buf .entry)) 0 (startBytes n order) (now (buf .exit)) r ⌝ }
+{
+    let at = numbers::write_number(buf, 0, n);
+    if order == PRIORITY_ORDER {
+        return numbers::write_number(buf, at, crate::ORDER_MARK);
+    }
+    at
 }
 
 // Writes the records from the place `start` of buf on, and answers the place after them.
@@ -117,17 +166,18 @@ fn write_rows(
     firsts: &[u32],
     seconds: &[u32],
     limits: &[i32],
+    priorities: &[u32],
 ) -> usize
-    requires { ⌜ Level (columns (now kinds) (now firsts) (now seconds) (now limits)) ⌝ }
-    requires { ⌜ start + length (rowsBytes (columns (now kinds) (now firsts) (now seconds) (now limits)) 0 (length (now kinds))) ≤ length (now buf) ⌝ }
+    requires { ⌜ Level (columns (now kinds) (now firsts) (now seconds) (now limits) (now priorities)) ⌝ }
+    requires { ⌜ start + length (rowsBytes (columns (now kinds) (now firsts) (now seconds) (now limits) (now priorities)) 0 (length (now kinds))) ≤ length (now buf) ⌝ }
     ensures { λ r. ⌜ Wrote (now (buf .entry)) start
-        (rowsBytes (columns (now (kinds .entry)) (now (firsts .entry)) (now (seconds .entry)) (now (limits .entry))) 0 (length (now (kinds .entry))))
+        (rowsBytes (columns (now (kinds .entry)) (now (firsts .entry)) (now (seconds .entry)) (now (limits .entry)) (now (priorities .entry))) 0 (length (now (kinds .entry))))
         (now (buf .exit)) r ⌝ }
 {
     let mut at = start;
     let mut i: usize = 0;
     while i < kinds.len() {
-        let row = row_at(kinds, firsts, seconds, limits, i);
+        let row = row_at(kinds, firsts, seconds, limits, priorities, i);
         at = write_row(buf, at, row);
         i += 1;
     }
@@ -135,16 +185,24 @@ fn write_rows(
 }
 
 // The record at the place i of the columns.
-fn row_at(kinds: &[u32], firsts: &[u32], seconds: &[u32], limits: &[i32], i: usize) -> Row
-    requires { ⌜ Level (columns (now kinds) (now firsts) (now seconds) (now limits)) ⌝ }
+fn row_at(
+    kinds: &[u32],
+    firsts: &[u32],
+    seconds: &[u32],
+    limits: &[i32],
+    priorities: &[u32],
+    i: usize,
+) -> Row
+    requires { ⌜ Level (columns (now kinds) (now firsts) (now seconds) (now limits) (now priorities)) ⌝ }
     requires { ⌜ i < length (now kinds) ⌝ }
-    ensures { λ r. ⌜ r ≡ rowAt (columns (now (kinds .entry)) (now (firsts .entry)) (now (seconds .entry)) (now (limits .entry))) i ⌝ }
+    ensures { λ r. ⌜ r ≡ rowAt (columns (now (kinds .entry)) (now (firsts .entry)) (now (seconds .entry)) (now (limits .entry)) (now (priorities .entry))) i ⌝ }
 {
     Row {
         kind: kinds[i],
         first: firsts[i],
         second: seconds[i],
         limit: limits[i],
+        priority: priorities[i],
     }
 }
 
@@ -159,6 +217,8 @@ fn is_given(row: Row) -> bool
         Kind::Release => true,
         Kind::Cancel => true,
         Kind::Tick => true,
+        Kind::PriorityGet => -1 <= row.limit,
+        Kind::PriorityPoll => true,
         Kind::Unknown => false,
     }
 }
@@ -167,10 +227,33 @@ fn is_given(row: Row) -> bool
 fn numbers_of(row: Row) -> Numbers
     ensures { λ r. ⌜ Holds (r .values) (r .count) (numbersOf row) ⌝ }
 {
-    let count = crate::field_count(crate::kind_of(row.kind));
+    let kind = crate::kind_of(row.kind);
+    let count = crate::field_count(kind);
     Numbers {
-        values: [row.kind, row.first, row.second, limit_field(row.limit)],
+        values: [
+            row.kind,
+            row.first,
+            row.second,
+            third_of(kind, row),
+            row.priority,
+        ],
         count: count + 1,
+    }
+}
+
+// The third field of a record: the limit of a get, the priority of a poll that has one, 0 where there is none.
+fn third_of(kind: Kind, row: Row) -> u32
+    ensures { λ r. ⌜ r ≡ thirdOf kind row ⌝ }
+{
+    match kind {
+        Kind::Get => limit_field(row.limit),
+        Kind::Poll => 0,
+        Kind::Release => 0,
+        Kind::Cancel => 0,
+        Kind::Tick => 0,
+        Kind::PriorityGet => limit_field(row.limit),
+        Kind::PriorityPoll => row.priority,
+        Kind::Unknown => 0,
     }
 }
 

@@ -14,6 +14,7 @@ pub mod NoTrace
 pub mod Fates
 pub mod Timeouts
 pub mod WaitBound
+pub mod Passing
 pub mod Runs
 pub mod Pool
 pub mod Sizes

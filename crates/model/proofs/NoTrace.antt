@@ -15,7 +15,7 @@ use Rattle.model.specs.Calls.{HeaderPlace, Woken, noOffset, offsetOf, pl
 use Rattle.model.specs.Runs.{after, run, gets, refuses, refusedBy, refusals, isZero, winners, Absent, Others, Ranked}
 use Rattle.model.specs.Demands.{NoTrace, undo}
 use Rattle.model.proofs.Tests.{by, clash, and-r, or-f-l, or-f-r, or-f}
-use Rattle.model.proofs.Waiting.{waits-other, remove-insert-same, remove-insert, waits-insert, waits-insert-same, blocked-insert, blocked-more}
+use Rattle.model.proofs.Waiting.{waits-other, remove-queued, remove-insert-same, remove-insert, waits-insert, waits-insert-same, blocked-insert, blocked-more}
 use Rattle.model.proofs.Store.{StoreLaws}
 use Rattle.model.proofs.Refusals.{verdict-refused, refused-code}
 use Rattle.model.proofs.Reasons.{live-released}
@@ -76,6 +76,16 @@ module _ (K : Rules) {P : Type 0} (E : Store P) where
       go (refusal x t e) = refused-not f s x waiting t e z refl
       go (granting n g e) = code-not (step K E (get f) s) (grants K E (entryOf f) s) waiting e z (λ q. let z : _≡_ {A = ℕ} 0 1 = cc in omega arith)
       go (joining n g e) = record { fair = passed K E f s n; is = e }
+
+  -- one that is granted goes
+  pub granted-goes : (r : Request) (s : State P) → sound K E s ≡ true → step K E (get r) s .said .code ≡ e-ok → goes K E (entryOf r) s ≡ true
+  unfolding refuses
+  granted-goes r s h z = go (outcome r s h)
+    where
+      go : Outcome r s → goes K E (entryOf r) s ≡ true
+      go (refusal x t e) = refused-not r s x e-ok t e z refl
+      go (joining n g e) = code-not (step K E (get r) s) (joins K E (entryOf r) s) e-ok e z (λ q. let z : _≡_ {A = ℕ} 0 1 = cc in omega arith)
+      go (granting n g e) = g
 
   module _ (L : Laws K) (S : StoreLaws K E) where
     -- ---- second half
@@ -216,9 +226,9 @@ module _ (K : Rules) {P : Type 0} (E : Store P) where
             with-sound = rw g at (step-sound K E L S (get r) s₁ (o .with-sound));
             without-sound = sz;
             there = waits-insert K t e (s₁ .queue) (o .there);
-            held = blocked-more K k e (s₁ .queue) (sym rk) (o .held);
+            held = blocked-more K k e (s₁ .queue) (o .held);
             below = rw ri (below-insert K E S k (s₁ .pool) e (remove t (s₁ .queue)) rk (o .below));
-            serves = rw ri (serve-insert K E S (s₁ .pool) e (remove t (s₁ .queue)) (rw rk (o .below)) ∙ ap (λ (x : Served P). more K E x e) (o .serves) ∙ m);
+            serves = rw ri (serve-insert K E S (s₁ .pool) e (remove t (s₁ .queue)) (remove-queued K t (s₁ .queue) (open-sound K E s₁ (o .with-sound) .order)) (rw rk (o .below)) ∙ ap (λ (x : Served P). more K E x e) (o .serves) ∙ m);
           }
 
       step-joining : K .rank (entryOf r) ≡ k → Absent (r .task) rs → step K E (get r) s₁ ≡ joins K E (entryOf r) s₁ → Outcome r s₂ → tests K E (get r) s₂ ≡ none

@@ -21,11 +21,14 @@ unused-is e h =
     let a = eqb (e .task) 0 in
     let b = eqb (e .size) 0 in
     let c = eqb (e .left) 0 in
-    let h2 = and-r a (b && c) h in
-    let t = eqb-true (e .task) 0 (and-l a (b && c) h) in
-    let z = eqb-true (e .size) 0 (and-l b c h2) in
-    let l = eqb-true (e .left) 0 (and-r b c h2) in
-    λ i. record { task = t i; size = z i; left = l i }
+    let d = eqb (e .priority) 0 in
+    let h2 = and-r a (b && (c && d)) h in
+    let h3 = and-r b (c && d) h2 in
+    let t = eqb-true (e .task) 0 (and-l a (b && (c && d)) h) in
+    let z = eqb-true (e .size) 0 (and-l b (c && d) h2) in
+    let l = eqb-true (e .left) 0 (and-l c d h3) in
+    let p = eqb-true (e .priority) 0 (and-r c d h3) in
+    λ i. record { task = t i; size = z i; left = l i; priority = p i }
 
 all-unused-is : (l : List Entry) → allUnused l ≡ true → l ≡ pad noEntry (length l) []
 unfolding allUnused pad

@@ -11,12 +11,12 @@ use lib.ListN.{length}
 use lib.IntN.{pos}
 use Rattle.model.specs.Limits.{most-tasks, minus, e-ok, waiting, e-sys, e-rlwai, already-free}
 use Rattle.model.specs.Blocks.{Block, block, total, tiled, liveCount}
-use Rattle.model.specs.Waiting.{Entry, waits, entryIn, remove}
+use Rattle.model.specs.Waiting.{Entry, waits, entryIn, remove, withLeft}
 use Rattle.model.specs.Rules.{Rules, Laws, Attributes, queued}
 use Rattle.model.specs.Calls.{BlockOffset, noOffset, noPlace, Request, Call, get, release, cancel, tick, inquire, Said, Reply, says, Refusal, plain, refuse, decide, entryOf, leaves, blocks, Store, State, state, fitting, given, serve, headStuck, sound, isLive, misplaced, tests, verdict, act, step}
 use Rattle.model.specs.Refusals.{Refused}
 use Rattle.model.specs.Runs.{Turn, after, run, refuses, refusedBy, wakeCode, endCode, Spared, releases, Unpassed, gets, refusals, winners, Others, Ranked}
-use Rattle.model.specs.Demands.{Seen, NoTrace, undo, Undone, Timeout, Untimed, EndsWithin, OneHolder}
+use Rattle.model.specs.Demands.{Seen, NoTrace, undo, Undone, Timeout, Untimed, StaysBehind, EndsWithin, OneHolder}
 use Rattle.model.specs.Bytes.{blocksOf, render, erase}
 use Rattle.model.specs.Places.{Queue, noEntry, pad, used, allUnused, tidy, entriesOf, queueOf}
 use Rattle.model.specs.Pool.{Stored, stored, Typed, view, waiters, waitBound, settled, soundBy, performBy, rulesOf, isSound, perform, create}
@@ -30,8 +30,9 @@ use Rattle.model.proofs.Soundness.{no-some, Sound, open-sound, close-so
 use Rattle.model.proofs.Refusals.{verdict-refused, refused-verdict, refused-code, misplaced-because, done-code, act-code, act-no-reason}
 use Rattle.model.proofs.Reasons.{live-released, released-live, held-at}
 use Rattle.model.proofs.NoTrace.{Outcome, refusal, granting, joining, outcome, no-trace, get-release}
-use Rattle.model.proofs.Timeouts.{timeout, unlimited}
+use Rattle.model.proofs.Timeouts.{timeout, unlimited, still-waits}
 use Rattle.model.proofs.WaitBound.{wait-bound}
+use Rattle.model.proofs.Passing.{stays-behind}
 use Rattle.model.proofs.Runs.{runs-alike, ends-alike}
 
 -- ---- a state as it is kept, given the rules
@@ -485,8 +486,7 @@ module _ (R : Attributes → ℕ → Rules) (law : (a : Attributes) (n : ℕ) �
 
   -- ---- timeouts: a get that is told to wait, and a run from there
 
-  module _ (p : Stored) (f : Request) (cs : List Call) (h : isSound R p ≡ true) (z : perform R (get f) p .said .code ≡ waiting)
-      (sp : Spared (f .task) (run (perform R) (perform R (get f) p .state) cs)) where
+  module _ (p : Stored) (f : Request) (cs : List Call) (h : isSound R p ≡ true) (z : perform R (get f) p .said .code ≡ waiting) where
     abbrev S : Rules
     S = rulesOf R p
 
@@ -519,8 +519,8 @@ module _ (R : Attributes → ℕ → Rules) (law : (a : Attributes) (n : ℕ) �
     unfolding view
     waits-shown b x s o e = ap (λ (y : State (List Block)). waits (f .task) (y .queue)) (o .is) ∙ e
 
-    pub perform-timeout : (k : ℕ) → f .limit ≡ pos k → Timeout (perform R) waiters p₁ (f .task) k cs
-    perform-timeout k e =
+    pub perform-timeout : Spared (f .task) (run (perform R) p₁ cs) → (k : ℕ) → f .limit ≡ pos k → Timeout (perform R) waiters p₁ (f .task) k cs
+    perform-timeout sp k e =
         let m = timeout S (blocks S) (lawsOf p) (block-laws S) (view p) f cs good told (rw turns at sp) k e in
         let pe = after (perform R) p₁ cs in
         let se = after steps s₁ cs in
@@ -532,10 +532,25 @@ module _ (R : Attributes → ℕ → Rules) (law : (a : Attributes) (n : ℕ) �
           gone = λ i. waits-shown false (perform R tick pe .state) (steps tick se .state) (last .shown) (m .gone i);
         }
 
-    pub perform-unlimited : f .limit ≡ minus 1 → Untimed (perform R) waiters p₁ (f .task) cs
-    perform-unlimited e =
+    pub perform-unlimited : Spared (f .task) (run (perform R) p₁ cs) → f .limit ≡ minus 1 → Untimed (perform R) waiters p₁ (f .task) cs
+    perform-unlimited sp e =
         let m = unlimited S (blocks S) (lawsOf p) (block-laws S) (view p) f cs good told (rw turns at sp) e in
         record { ends = ap (endCode (f .task)) turns ∙ m .ends; waiting = waits-shown true (after (perform R) p₁ cs) (after steps s₁ cs) end (m .waiting) }
+
+    -- ---- nobody is passed: as long as it waits, requests of no better rank stay behind it
+
+    pub perform-behind : (r : Request) (ds : List Call) → endCode (f .task) (run (perform R) p₁ cs) ≡ none → S .rank (entryOf f) ≤ S .rank (entryOf r)
+        → StaysBehind (perform R) (after (perform R) p₁ cs) (f .task) r ds
+    perform-behind r ds u k =
+        let pe = after (perform R) p₁ cs in
+        let se = after steps s₁ cs in
+        let w = still-waits S (blocks S) (lawsOf p) (block-laws S) (view p) f cs good told (sym (ap (endCode (f .task)) turns) ∙ u) in
+        let kept = lawsOf p .rank-left (w .left) (entryOf f) in
+        let m = stays-behind S (blocks S) (lawsOf p) (block-laws S) se (f .task) (withLeft (w .left) (entryOf f)) r ds (w .good) (w .here) (omega (arith, k, kept)) in
+        let n = next S (lawsOf p) (get r) pe se end in
+        let code = ap (λ (x : Said). x .code) (n .said) in
+        let later = runs-shown S (lawsOf p) ds (perform R (get r) pe .state) (steps (get r) se .state) (n .shown) in
+        record { not-at-once = λ e. m .not-at-once (sym code ∙ e); not-before = λ e. rw later (m .not-before (sym code ∙ e)) }
 
   -- ---- the wait bound
 

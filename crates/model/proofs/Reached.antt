@@ -8,7 +8,7 @@ use native.Mathlib.Omega.{arith}
 use lib.ListN.{length, replicate, length-replicate}
 use lib.Dec.{leb, eqb}
 use borrow.Author.Tests.{eqb-true, le-leb, lt-leb, eq-eqb, ne-eqb}
-use Rattle.model.specs.Limits.{most-tasks, longest-pool, forever, e-ok}
+use Rattle.model.specs.Limits.{most-tasks, longest-pool, lowest-priority, forever, e-ok}
 use Rattle.model.specs.Blocks.{Block, block, total, tiled, fits, carve, granted, startsAt, liveAt, join, freed, liveCount}
 use Rattle.model.specs.Waiting.{Entry, waits, placeIn, leads}
 use Rattle.model.specs.Rules.{Rules, needOf, queued, rules}
@@ -72,7 +72,7 @@ module _ (N : ℕ) (four : N % 4 ≡ 0) (least : 12 ≤ N) where
   -- ---- the queue
 
   abbrev entry : ℕ → Entry
-  entry t = record { task = t; size = N - 8; left = forever }
+  entry t = record { task = t; size = N - 8; left = forever; priority = lowest-priority }
 
   -- n tasks from t on, each of which asks for the whole pool
   unfoldable askers : ℕ → ℕ → List Entry

@@ -1,16 +1,17 @@
 -- Laws of serve, over any store. Assumes nothing.
-use Prim.Native.Nat.{ℕ, _+_, _≤_}
+use Prim.Native.Nat.{ℕ, suc, _+_, _≤_}
 use mathlib.Core.Path.{_≡_, refl, ap, _∙_}
-use mathlib.Core.Bool.{true, cond}
+use mathlib.Core.Bool.{true, false, cond}
 use mathlib.Core.List.{List, [], _∷_, _++_}
 use native.Mathlib.Omega.{arith}
 use lib.ListN.{length}
 use lib.Dec.{leb}
 use borrow.Author.Tests.{leb-false, le-leb}
-use Rattle.model.specs.Waiting.{Entry, insert, blocked}
-use Rattle.model.specs.Rules.{Rules}
+use Rattle.model.specs.Waiting.{Entry, insert, blocked, expires, expired, remaining}
+use Rattle.model.specs.Rules.{Rules, queued}
 use Rattle.model.specs.Calls.{Woken, Store, Served, state, noted, fitting, given, wakes, serve, headStuck, goes}
 use Rattle.model.proofs.Tests.{by, clash, not-t}
+use Rattle.model.proofs.Waiting.{open-queued, head-blocks}
 use Rattle.model.proofs.Store.{StoreLaws}
 
 module _ (K : Rules) {P : Type 0} (E : Store P) where
@@ -18,6 +19,12 @@ module _ (K : Rules) {P : Type 0} (E : Store P) where
   unfolding serve headStuck
   serve-stuck p [] h = refl
   serve-stuck p (e ∷ q) h = rw (not-t (fitting K E e p) h)
+
+  -- a tick that ends no wait leaves the head's size
+  pub stuck-remaining : (p : P) (q : List Entry) → length (expired q) ≡ 0 → headStuck K E p q ≡ true → headStuck K E p (remaining q) ≡ true
+  unfolding headStuck expired remaining
+  stuck-remaining p [] n h = refl
+  stuck-remaining p (e ∷ q) n h = by (expires e) (λ x. absurd (let z : suc (length (expired q)) ≡ 0 = rw x at n in omega arith)) (λ x. rw x h)
 
   pub serve-ends : (p : P) (q : List Entry) → headStuck K E (serve K E p q .state .pool) (serve K E p q .state .queue) ≡ true
   unfolding serve headStuck
@@ -72,15 +79,16 @@ module _ (K : Rules) {P : Type 0} (E : Store P) where
         )))
 
     -- to serve a queue with one more is to serve the queue and then to answer the one
-    pub serve-insert : (p : P) (e : Entry) (q : List Entry) → Below (K .rank e) p q → serve K E p (insert (K .rank) e q) ≡ more (serve K E p q) e
+    pub serve-insert : (p : P) (e : Entry) (q : List Entry) → queued K q ≡ true → Below (K .rank e) p q → serve K E p (insert (K .rank) e q) ≡ more (serve K E p q) e
     unfolding Below insert serve blocked
-    serve-insert p e [] b = by (fitting K E e p) (λ f. rw f) (λ f. rw f)
-    serve-insert p e (x ∷ q) b =
+    serve-insert p e [] o b = by (fitting K E e p) (λ f. rw f) (λ f. rw f)
+    serve-insert p e (x ∷ q) o b =
         by (fitting K E x p)
         (λ f. let h : leb (K .rank x) (K .rank e) ≡ true = le-leb (K .rank x) (K .rank e) ((b f) .0) in
-        rw h (rw f (ap (λ (v : Served P). noted (wakes K E x p) v) (serve-insert (given K E x p) e q ((b f) .1)) ∙ noted-more (wakes K E x p) (serve K E (given K E x p) q) e)))
+        rw h (rw f (ap (λ (v : Served P). noted (wakes K E x p) v) (serve-insert (given K E x p) e q (open-queued K x q o .rest) ((b f) .1)) ∙ noted-more (wakes K E x p) (serve K E (given K E x p) q) e)))
         (λ f. by (leb (K .rank x) (K .rank e))
         (λ h. rw h (rw f (rw h)))
-        (λ h. rw h (by (fitting K E e p)
-        (λ g. let m = S .grant-fits (K .need (e .size)) (e .task) (K .need (x .size)) p f in rw g (rw (m, f) (rw (h, g))))
-        (λ g. rw g (rw f (rw (h, g)))))))
+        (λ h. let free : blocked (K .rank) (K .rank e) (x ∷ q) ≡ false = head-blocks K (K .rank e) x q o ∙ h in
+        rw h (by (fitting K E e p)
+        (λ g. let m = S .grant-fits (K .need (e .size)) (e .task) (K .need (x .size)) p f in rw g (rw (m, f) (rw (free, g))))
+        (λ g. rw g (rw f (rw (free, h, g)))))))

@@ -14,7 +14,7 @@ use Rattle.model.specs.Waiting.{Entry, waits, remove, insert, blocked, o
 use Rattle.model.specs.Rules.{Rules, Laws, okTask, queued}
 use Rattle.model.specs.Calls.{placeOf, Request, Call, get, release, cancel, tick, inquire, Refusal, plain, refuse, deny, okLimit, leftOf, entryOf, leave, Store, State, state, fitting, given, serve, headStuck, sound, goes, tests, verdict, act, step}
 use Rattle.model.proofs.Tests.{by, and-l, and-r, and-i, not-t, not-f}
-use Rattle.model.proofs.Waiting.{Asked, asked, entry-asked, open-queued, insert-queued, remove-queued, remaining-queued, queued-length, remove-count, expired-count}
+use Rattle.model.proofs.Waiting.{Asked, asked, entry-asked, open-queued, head-blocks, insert-queued, remove-queued, remaining-queued, queued-length, remove-count, expired-count}
 use Rattle.model.proofs.Store.{StoreLaws}
 use Rattle.model.proofs.Serving.{serve-ends, serve-count}
 
@@ -127,11 +127,11 @@ module _ (K : Rules) {P : Type 0} (E : Store P) where
     stuck-given e p [] h = refl
     stuck-given e p (x ∷ q) h = rw (S .grant-fits (K .need (e .size)) (e .task) (K .need (x .size)) p (not-t (fitting K E x p) h))
 
-    stuck-insert : (e : Entry) (p : P) (q : List Entry) → goes K E e (state p q) ≡ false → headStuck K E p q ≡ true → headStuck K E p (insert (K .rank) e q) ≡ true
+    stuck-insert : (e : Entry) (p : P) (q : List Entry) → queued K q ≡ true → goes K E e (state p q) ≡ false → headStuck K E p q ≡ true → headStuck K E p (insert (K .rank) e q) ≡ true
     unfolding headStuck insert blocked
-    stuck-insert e p [] g h = rw g
-    stuck-insert e p (x ∷ q) g h =
-        by (leb (K .rank x) (K .rank e)) (λ l. rw l h) (λ l. rw l (let f : fitting K E e p ≡ false = rw l at g in rw f))
+    stuck-insert e p [] o g h = rw g
+    stuck-insert e p (x ∷ q) o g h =
+        by (leb (K .rank x) (K .rank e)) (λ l. rw l h) (λ l. rw l (let f : fitting K E e p ≡ false = rw (head-blocks K (K .rank e) x q o, l) at g in rw f))
 
     left-ok : (l : ℤ) → okLimit l ≡ true → okLeft (leftOf l) ≡ true
     left-ok (pos n) a = and-i (leb 1 (n + 1)) _ (le-leb 1 (n + 1) (omega arith)) (rw (le-leb (n + 1) longest-left (omega (arith, leb-true n longest-limit a))))
@@ -149,7 +149,7 @@ module _ (K : Rules) {P : Type 0} (E : Store P) where
           valid = k .valid;
           pool = k .pool;
           order = insert-queued K e (s .queue) (and-i (okTask K (r .task)) _ (o .task) (and-i (K .allowed e) _ (o .fair) (left-ok (r .limit) (o .limit)))) (o .away) (k .order);
-          stuck = stuck-insert e (s .pool) (s .queue) g (k .stuck);
+          stuck = stuck-insert e (s .pool) (s .queue) (k .order) g (k .stuck);
         })))
 
     pub act-sound : (c : Call) (s : State P) → sound K E s ≡ true → tests K E c s ≡ none → sound K E (act K E c s .state) ≡ true

@@ -1,5 +1,5 @@
--- What is proved of the calls: first over any rules that meet the laws, then for the pools that create makes, with size kinds and without. Assumes nothing.
-use Prim.Native.Nat.{ℕ, _+_, _-_, _*_, _^_, _≤_}
+-- What is proved of the calls: first over any rules that meet the laws, then for the pools that create makes, with size kinds and without, of either order. Assumes nothing.
+use Prim.Native.Nat.{ℕ, _+_, _-_, _*_, _^_, _≤_, _<_}
 use mathlib.Core.Path.{_≡_, refl, _∙_}
 use mathlib.Core.Bool.{true, false}
 use mathlib.Core.Logic.{_↔_, _⊎_}
@@ -7,30 +7,32 @@ use mathlib.Core.List.{List}
 use mathlib.Core.Option.{Option, none, some}
 use native.Mathlib.Omega.{arith}
 use lib.ListN.{length, getD}
+use lib.Dec.{leb}
 use lib.IntN.{pos}
-use Rattle.model.specs.Limits.{most-tasks, longest-pool, minus, e-ok, waiting, already-free}
+use borrow.Author.Tests.{leb-true}
+use Rattle.model.specs.Limits.{most-tasks, longest-pool, lowest-priority, minus, e-ok, waiting, already-free}
 use Rattle.model.specs.Blocks.{Block}
 use Rattle.model.specs.Waiting.{Entry, waits, entryIn}
 use Rattle.model.specs.Sizes.{kind, last-place, kindsFrom, topKind, SmallestKind}
-use Rattle.model.specs.Rules.{Rules, Laws, Attributes, queued, withoutKinds, mostAsked, rounded, rules}
+use Rattle.model.specs.Rules.{Rules, Laws, Attributes, queued, withoutKinds, mostAsked, okSize, okPriority, rounded, rules}
 use Rattle.model.specs.Calls.{BlockOffset, noPlace, Request, Call, get, release, Refusal, refuse, entryOf, blocks, isLive, step}
 use Rattle.model.specs.Refusals.{Refused}
-use Rattle.model.specs.Runs.{after, run, refuses, refusedBy, Spared, releases, Unpassed, Others, Ranked}
+use Rattle.model.specs.Runs.{after, run, refuses, refusedBy, endCode, Spared, releases, Unpassed, NoneBetter, Others, Ranked, OfPriority}
 use Rattle.model.specs.Bytes.{blocksOf, render}
-use Rattle.model.specs.Places.{entriesOf, queueOf}
-use Rattle.model.specs.Demands.{Seen, NoTrace, undo, Undone, Timeout, Untimed, EndsWithin, Reached, OneHolder}
-use Rattle.model.specs.Pool.{Stored, Typed, view, waiters, waitBound, rulesOf, isSound, perform, create}
-use Rattle.model.proofs.Tests.{clash}
+use Rattle.model.specs.Places.{noEntry, entriesOf, queueOf}
+use Rattle.model.specs.Demands.{Seen, NoTrace, undo, Undone, Timeout, Untimed, StaysBehind, EndsWithin, Reached, OneHolder}
+use Rattle.model.specs.Pool.{Stored, Typed, Fifo, ByPriority, view, waiters, waitBound, rulesOf, isSound, perform, create}
+use Rattle.model.proofs.Tests.{clash, and-l, and-r}
 use Rattle.model.proofs.Bytes.{blocks-render, render-blocks}
 use Rattle.model.proofs.Places.{queued-live, used-pad, queue-entries}
-use Rattle.model.proofs.Waiting.{queued-length}
+use Rattle.model.proofs.Waiting.{queued-order, queued-length}
 use Rattle.model.proofs.Store.{open-blocks}
 use Rattle.model.proofs.Soundness.{open-sound}
 use Rattle.model.proofs.Fates.{none-away}
 use Rattle.model.proofs.Pool as P
 use Rattle.model.proofs.Pool.{open-stored}
 use Rattle.model.proofs.Sizes.{kinds-rule, top-holds, top-least}
-use Rattle.model.proofs.Rules.{open-size, rounds, entry-allowed, rules-laws, rules-long, rules-one-rank, rules-unpassed}
+use Rattle.model.proofs.Rules.{open-size, rounds, entry-allowed, rules-laws, rules-long, fifo-rank, rank-order, rules-ranked, fifo-ranked, rules-unpassed, fifo-unpassed}
 use Rattle.model.proofs.Reached.{bound-reached}
 
 module _ (R : Attributes → ℕ → Rules) (law : (a : Attributes) (n : ℕ) → Laws (R a n)) (long-is : (a : Attributes) (n : ℕ) → R a n .long ≡ n) where
@@ -140,6 +142,15 @@ module _ (R : Attributes → ℕ → Rules) (law : (a : Attributes) (n : ℕ) �
       → Spared (f .task) (run (perform R) (perform R (get f) p .state) cs) → Untimed (perform R) waiters (perform R (get f) p .state) (f .task) cs
   unlimited p f cs h e z sp = P.perform-unlimited R law long-is p f cs h z sp e
 
+  -- ---- order: a task that was told to wait is not passed
+
+  -- As long as it waits, through whatever calls cs, a request of no better rank that is made then is not granted, and does not get a block before its wait
+  -- has ended, whatever calls ds follow.
+  pub never-passed : (p : Stored) (f : Request) (cs : List Call) (r : Request) (ds : List Call) → isSound R p ≡ true → perform R (get f) p .said .code ≡ waiting
+      → endCode (f .task) (run (perform R) (perform R (get f) p .state) cs) ≡ none → rulesOf R p .rank (entryOf f) ≤ rulesOf R p .rank (entryOf r)
+      → StaysBehind (perform R) (after (perform R) (perform R (get f) p .state) cs) (f .task) r ds
+  never-passed p f cs r ds h z u k = P.perform-behind R law long-is p f cs h z r ds u k
+
   -- ---- the wait bound, for every run from a sound state in which the task t waits with the entry e
 
   -- With L live blocks and the task at place k of the queue, its wait ends at the latest in the (L + k - 1)-th successful release, and ends with a block
@@ -164,14 +175,36 @@ pub pool-rounds : (a : Attributes) (n : ℕ) → withoutKinds a ≡ false → ru
     → SmallestKind (a .greatest) (e .size) (rounded a (e .size))
 pool-rounds = rounds
 
--- in a sound state a task that waits asked for 1 byte to the greatest request
+-- ---- what a sound queue holds
+
+-- a task that waits asked for 1 byte to the greatest request
 pub pool-sizes-asked : (p : Stored) (t : ℕ) (e : Entry) → isSound rules p ≡ true → entryIn t (waiters p) ≡ some e → (1 ≤ e .size) × (e .size ≤ mostAsked (p .queue .attributes) (length (p .bytes)))
 unfolding view rules
 pool-sizes-asked p t e h w =
     let K = rulesOf rules p in
     let o = open-sound K (blocks K) (view p) (open-stored K p h .0) in
-    let s = open-size (mostAsked (p .queue .attributes) (length (p .bytes))) (e .size) (entry-allowed K t e (waiters p) (o .order) w) in
+    let most = mostAsked (p .queue .attributes) (length (p .bytes)) in
+    let s = open-size most (e .size) (and-l (okSize most (e .size)) (okPriority (e .priority)) (entry-allowed K t e (waiters p) (o .order) w)) in
     (s .least, s .most)
+
+-- with a priority of 1 to the lowest
+pub pool-priorities-asked : (p : Stored) (t : ℕ) (e : Entry) → isSound rules p ≡ true → entryIn t (waiters p) ≡ some e → (1 ≤ e .priority) × (e .priority ≤ lowest-priority)
+unfolding view rules
+pool-priorities-asked p t e h w =
+    let K = rulesOf rules p in
+    let o = open-sound K (blocks K) (view p) (open-stored K p h .0) in
+    let k = and-r (okSize (mostAsked (p .queue .attributes) (length (p .bytes))) (e .size)) (okPriority (e .priority)) (entry-allowed K t e (waiters p) (o .order) w) in
+    (leb-true 1 (e .priority) (and-l (leb 1 (e .priority)) (leb (e .priority) lowest-priority) k), leb-true (e .priority) lowest-priority (and-r (leb 1 (e .priority)) (leb (e .priority) lowest-priority) k))
+
+-- a queue by priority stands best first
+pub pool-best-first : (p : Stored) → ByPriority p → isSound rules p ≡ true → (i j : ℕ) → i ≤ j → j < length (waiters p)
+    → getD (waiters p) i noEntry .priority ≤ getD (waiters p) j noEntry .priority
+unfolding view rules
+pool-best-first p b h i j k l =
+    let K = rulesOf rules p in
+    let o = open-sound K (blocks K) (view p) (open-stored K p h .0) in
+    let r = queued-order K (waiters p) (o .order) i j noEntry k l in
+    rw b at r
 
 -- ---- the pools that create makes
 
@@ -231,9 +264,14 @@ pool-queue-of-entries = queue-of-entries rules rules-laws rules-long
 pub pool-woken-fit : (c : Call) (p : Stored) → isSound rules p ≡ true → length (perform rules c p .said .woken) ≤ most-tasks
 pool-woken-fit = woken-fit rules rules-laws rules-long
 
-pub pool-cancel-no-trace : (p : Stored) (f : Request) (rs : List Request) → isSound rules p ≡ true → Typed p → perform rules (get f) p .said .code ≡ waiting
+-- in a FIFO pool for every list of gets, in either order where all have the first one's priority
+pub fifo-cancel-no-trace : (p : Stored) (f : Request) (rs : List Request) → Fifo p → isSound rules p ≡ true → Typed p → perform rules (get f) p .said .code ≡ waiting
     → Others (f .task) rs → NoTrace (perform rules) p f rs
-pool-cancel-no-trace p f rs h t z os = cancel-no-trace rules rules-laws rules-long p f rs h t z os (rules-one-rank (p .queue .attributes) (length (p .bytes)) (entryOf f) rs)
+fifo-cancel-no-trace p f rs o h t z os = cancel-no-trace rules rules-laws rules-long p f rs h t z os (fifo-ranked (p .queue .attributes) (length (p .bytes)) o (entryOf f) rs)
+
+pub pool-cancel-no-trace : (p : Stored) (f : Request) (rs : List Request) → isSound rules p ≡ true → Typed p → perform rules (get f) p .said .code ≡ waiting
+    → Others (f .task) rs → OfPriority (f .priority) rs → NoTrace (perform rules) p f rs
+pool-cancel-no-trace p f rs h t z os k = cancel-no-trace rules rules-laws rules-long p f rs h t z os (rules-ranked (p .queue .attributes) (length (p .bytes)) (entryOf f) rs k)
 
 pub pool-release-undoes : (p : Stored) (r : Request) → isSound rules p ≡ true → Typed p → perform rules (get r) p .said .code ≡ e-ok → Undone p (undo (perform rules) p r)
 pool-release-undoes = release-undoes rules rules-laws rules-long
@@ -246,14 +284,34 @@ pub pool-unlimited : (p : Stored) (f : Request) (cs : List Call) → isSound rul
     → Spared (f .task) (run (perform rules) (perform rules (get f) p .state) cs) → Untimed (perform rules) waiters (perform rules (get f) p .state) (f .task) cs
 pool-unlimited = unlimited rules rules-laws rules-long
 
--- all are of one rank
-pub pool-wait-bound : (p : Stored) (t : ℕ) (cs : List Call) → isSound rules p ≡ true → waits t (waiters p) ≡ true
+-- in a FIFO pool by nobody that asks later, in either order by nobody of worse or equal priority that does
+pub fifo-never-passed : (p : Stored) (f : Request) (cs : List Call) (r : Request) (ds : List Call) → Fifo p → isSound rules p ≡ true → perform rules (get f) p .said .code ≡ waiting
+    → endCode (f .task) (run (perform rules) (perform rules (get f) p .state) cs) ≡ none
+    → StaysBehind (perform rules) (after (perform rules) (perform rules (get f) p .state) cs) (f .task) r ds
+fifo-never-passed p f cs r ds o h z u =
+    let rank = fifo-rank (p .queue .attributes) (length (p .bytes)) o (entryOf f) in
+    never-passed rules rules-laws rules-long p f cs r ds h z u (omega (arith, rank))
+
+pub pool-never-passed : (p : Stored) (f : Request) (cs : List Call) (r : Request) (ds : List Call) → isSound rules p ≡ true → perform rules (get f) p .said .code ≡ waiting
+    → endCode (f .task) (run (perform rules) (perform rules (get f) p .state) cs) ≡ none → f .priority ≤ r .priority
+    → StaysBehind (perform rules) (after (perform rules) (perform rules (get f) p .state) cs) (f .task) r ds
+pool-never-passed p f cs r ds h z u k =
+    never-passed rules rules-laws rules-long p f cs r ds h z u (rank-order (p .queue .attributes) (length (p .bytes)) (entryOf f) (entryOf r) k)
+
+-- in a FIFO pool whoever asks, in either order where nobody of better priority is granted or told to wait meanwhile
+pub fifo-wait-bound : (p : Stored) (t : ℕ) (cs : List Call) → Fifo p → isSound rules p ≡ true → waits t (waiters p) ≡ true
     → waitBound p t ≤ releases (run (perform rules) p cs) → EndsWithin (perform rules) p t (waitBound p t) cs
-pool-wait-bound p t cs h w n = go (entryIn t (waiters p)) refl
+fifo-wait-bound p t cs o h w n = go (entryIn t (waiters p)) refl
   where
     go : (v : Option Entry) → entryIn t (waiters p) ≡ v → EndsWithin (perform rules) p t (waitBound p t) cs
     go none e = clash (waits t (waiters p)) w (none-away t (waiters p) e)
-    go (some x) e = wait-bound rules rules-laws rules-long p t x cs h e (rules-unpassed (p .queue .attributes) (length (p .bytes)) t x (run (perform rules) p cs)) n
+    go (some x) e = wait-bound rules rules-laws rules-long p t x cs h e (fifo-unpassed (p .queue .attributes) (length (p .bytes)) x o t (run (perform rules) p cs)) n
+
+pub pool-wait-bound : (p : Stored) (t : ℕ) (e : Entry) (cs : List Call) → isSound rules p ≡ true → entryIn t (waiters p) ≡ some e
+    → NoneBetter t (e .priority) (run (perform rules) p cs)
+    → waitBound p t ≤ releases (run (perform rules) p cs) → EndsWithin (perform rules) p t (waitBound p t) cs
+pool-wait-bound p t e cs h here b n =
+    wait-bound rules rules-laws rules-long p t e cs h here (rules-unpassed (p .queue .attributes) (length (p .bytes)) e t (run (perform rules) p cs) b) n
 
 -- for every number of live blocks and every place there is a wait that lasts so long
 pub pool-bound-reached : (live k : ℕ) → 1 ≤ live → 12 * live ≤ longest-pool → 1 ≤ k → k ≤ most-tasks → Reached live k

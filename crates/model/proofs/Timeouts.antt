@@ -5,7 +5,7 @@ use mathlib.Core.Bool.{true}
 use mathlib.Core.List.{List, [], _∷_}
 use mathlib.Core.Option.{none, some}
 use native.Mathlib.Omega.{arith}
-use lib.IntN.{ℤ, pos}
+use lib.IntN.{ℤ, pos, negsuc}
 use borrow.Author.Tests.{leb-true, le-leb, lt-leb}
 use Rattle.model.specs.Limits.{longest-limit, forever, minus, e-ok, waiting, e-rlwai, e-tmout}
 use Rattle.model.specs.Waiting.{Entry, entryIn, withLeft}
@@ -14,9 +14,9 @@ use Rattle.model.specs.Calls.{Request, Call, get, Reply, leftOf, entryOf
 use Rattle.model.specs.Runs.{after, run, wakeCode, endCode, Spared, passes, ticks}
 use Rattle.model.specs.Demands.{Timeout, Untimed}
 use Rattle.model.proofs.Store.{StoreLaws}
-use Rattle.model.proofs.Soundness.{step-sound}
+use Rattle.model.proofs.Soundness.{no-some, step-sound}
 use Rattle.model.proofs.NoTrace.{told-joins}
-use Rattle.model.proofs.Fates.{older, older-zero, older-older, older-most, older-less, older-limited, entry-waits, entry-insert-same, Fate, served, cancelled, lapsed, lasts, Expired, last-tick, tick-done, step-fate}
+use Rattle.model.proofs.Fates.{spared-none, older, older-zero, older-older, older-most, older-less, older-limited, entry-waits, entry-insert-same, Fate, served, cancelled, lapsed, lasts, Expired, last-tick, tick-done, step-fate}
 
 -- ---- a run, and the wait of the entry `own`
 
@@ -84,6 +84,12 @@ module _ (K : Rules) {P : Type 0} (E : Store P) (L : Laws K) (S : StoreLaws K E)
       ap (λ (a : Reply (State P)). entryIn (f .task) (a .state .queue)) (o .is) ∙ entry-insert-same (K .rank) asked (s .queue) (o .fair .away)
       ∙ ap (λ (x : ℤ). some (withLeft (leftOf x) asked)) e
 
+  -- whom nothing has woken still waits, with some time left
+  pub record Still : Type 0 where
+    pub left : ℕ
+    pub here : entryIn (f .task) (later .queue) ≡ some (withLeft left asked)
+    pub good : sound K E later ≡ true
+
   module _ (sp : Spared (f .task) (run (step K E) begun cs)) where
     runs : (l : ℤ) → f .limit ≡ l → 1 ≤ leftOf l → leftOf l ≤ forever → Course K E asked L S begun cs (older (ticks cs) (leftOf l))
     runs l e m n = course K E asked L S cs begun (leftOf l) (step-sound K E L S (get f) s h) m n (begins l e) sp
@@ -119,3 +125,17 @@ module _ (K : Rules) {P : Type 0} (E : Store P) (L : Laws K) (S : StoreLaws K E)
         go : Course K E asked L S begun cs forever → Untimed (step K E) (λ z. z .queue) begun (f .task) cs
         go (timed-out z u) = absurd (omega (arith, z))
         go (waiting-still m u here good) = record { ends = u; waiting = entry-waits (f .task) (withLeft forever asked) (later .queue) here }
+
+  pub still-waits : endCode (f .task) (run (step K E) begun cs) ≡ none → Still
+  still-waits u = go (f .limit) refl
+    where
+      by-course : (l : ℕ) → Course K E asked L S begun cs l → Still
+      by-course l (waiting-still m e here good) = record { left = l; here = here; good = good }
+      by-course l (timed-out z e) = no-some (sym e ∙ u)
+
+      sp : Spared (f .task) (run (step K E) begun cs)
+      sp = spared-none (f .task) (run (step K E) begun cs) u
+
+      go : (l : ℤ) → f .limit ≡ l → Still
+      go (pos n) e = by-course _ (runs sp (pos n) e (omega arith) (omega (arith, leb-true n longest-limit (rw e at (told-joins K E f s h told .fair .limit)))))
+      go (negsuc n) e = by-course _ (runs sp (negsuc n) e (omega arith) (omega arith))

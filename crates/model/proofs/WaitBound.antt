@@ -9,13 +9,13 @@ use lib.Dec.{leb, eqb}
 use lib.IntN.{ℤ, pos, negsuc}
 use borrow.Author.Tests.{leb-true, ltb-false, eqb-true, eqb-false, le-leb, ne-eqb}
 use Rattle.model.specs.Limits.{longest-left, forever, e-ok, e-rlwai, e-tmout}
-use Rattle.model.specs.Waiting.{Entry, entryIn, placeIn, remove, insert, blocked, leads, okLeft, withLeft, expires, expired, remaining}
+use Rattle.model.specs.Waiting.{Entry, entryIn, placeIn, remove, insert, blocked, okLeft, withLeft, expires, expired, remaining}
 use Rattle.model.specs.Rules.{Rules, Laws, okTask, queued}
 use Rattle.model.specs.Calls.{placeOf, Call, get, release, cancel, tick, inquire, Reply, Refusal, entryOf, leaves, leave, Store, State, fitting, given, serve, headStuck, sound, goes, tests, act, step}
 use Rattle.model.specs.Runs.{Turn, after, run, isZero, refuses, wakeCode, endCode, passes, isRelease, released, releases, outranks, Unpassed}
 use Rattle.model.specs.Demands.{EndsWithin}
-use Rattle.model.proofs.Tests.{by, clash, and-l, and-r, and-f-r, not-t}
-use Rattle.model.proofs.Waiting.{entry-asked, open-queued, open-leads, remove-queued, remaining-queued}
+use Rattle.model.proofs.Tests.{by, clash, and-l, and-r, and-f-r, or-t-r, not-t}
+use Rattle.model.proofs.Waiting.{entry-asked, open-queued, head-blocks, remove-queued, remaining-queued}
 use Rattle.model.proofs.Store.{StoreLaws, CountLaws}
 use Rattle.model.proofs.Soundness.{no-some, open-sound, step-refused, step-done, verdict-sound, step-sound}
 use Rattle.model.proofs.Refusals.{verdict-refused, refused-code, done-code}
@@ -60,20 +60,16 @@ module _ (t : ℕ) (e : Entry) where
       (λ g. let ih = place-remaining q (rw g at h) n in by (expires y) (λ x. rw (x, g) (omega (arith, ih))) (λ x. rw (x, g) (omega (arith, ih))))
 
   module _ (K : Rules) where
-    -- those before it are of no higher rank, so a newcomer of its rank or a higher one has to wait behind it
-    held-up : (r : ℕ) (q : List Entry) → K .rank e ≤ r → queued K q ≡ true → entryIn t q ≡ some e → blocked (K .rank) r q ≡ true
+    -- a newcomer of its rank or a higher one has to wait
+    pub held-up : (r : ℕ) (q : List Entry) → K .rank e ≤ r → entryIn t q ≡ some e → blocked (K .rank) r q ≡ true
     unfolding entryIn blocked
-    held-up r [] k o h = no-some (sym h)
-    held-up r (x ∷ q) k o h =
+    held-up r [] k h = no-some (sym h)
+    held-up r (x ∷ q) k h =
         by (eqb (x .task) t)
         (λ g. let same : some x ≡ some e = rw g at h in
         let rank : K .rank x ≡ K .rank e = cc in
-        le-leb (K .rank x) r (omega (arith, rank)))
-        (λ g. let u = open-queued K x q o in behind q (u .lead) (held-up r q k (u .rest) (rw g at h)))
-      where
-        behind : (q : List Entry) → leads (K .rank) x q ≡ true → blocked (K .rank) r q ≡ true → leb (K .rank x) r ≡ true
-        behind [] l b = clash false b refl
-        behind (y ∷ q) l b = le-leb (K .rank x) r (omega (arith, open-leads K x y q l .order, leb-true (K .rank y) r b))
+        rw (le-leb (K .rank x) r (omega (arith, rank))))
+        (λ g. or-t-r (leb (K .rank x) r) _ (held-up r q k (rw g at h)))
 
     -- its time left is not 0
     entry-left : (q : List Entry) → queued K q ≡ true → entryIn t q ≡ some e → 1 ≤ e .left
@@ -89,10 +85,10 @@ module _ (t : ℕ) (e : Entry) where
         (λ g. entry-left q (u .rest) (rw g at h))
 
     place-insert : (x : Entry) (q : List Entry) → K .rank e ≤ K .rank x → queued K q ≡ true → entryIn t q ≡ some e → placeIn t (insert (K .rank) x q) ≡ placeIn t q
-    unfolding entryIn placeIn insert blocked
+    unfolding entryIn placeIn insert
     place-insert x [] k o h = no-some (sym h)
     place-insert x (y ∷ q) k o h =
-        rw (held-up (K .rank x) (y ∷ q) k o h) (by (eqb (y .task) t)
+        rw (sym (head-blocks K (K .rank x) y q o) ∙ held-up (K .rank x) (y ∷ q) k h) (by (eqb (y .task) t)
         (λ g. rw g)
         (λ g. rw g (ap (λ (n : ℕ). 1 + n) (place-insert x q k (open-queued K y q o .rest) (rw g at h)))))
 
@@ -136,7 +132,7 @@ module _ (K : Rules) {P : Type 0} (E : Store P) (count : P → ℕ) (C : CountLa
         let order = open-sound K E s h .order in
         let rank = ltb-false (K .rank e) (K .rank own) (rw (done-code K E (get r) s) at n) in
         let behind : K .rank (withLeft l own) ≤ K .rank e = omega (arith, rank, L .rank-left l own) in
-        let held : goes K E e s ≡ false = rw (held-up (own .task) (withLeft l own) K (K .rank e) q behind order here) in
+        let held : goes K E e s ≡ false = rw (held-up (own .task) (withLeft l own) K (K .rank e) q behind here) in
         rw held (omega (arith, place-insert (own .task) (withLeft l own) K e q behind order here))
     act-lowers (release o) u n w =
         let live = and-r (leb 8 (o .0)) (E .live (placeOf o) (s .pool)) (released-live K E o (s .pool) u) in

@@ -4,7 +4,7 @@ use mathlib.Core.Path.{_≡_, refl, sym, ap, _∙_}
 use mathlib.Core.Bool.{Bool, true, false, not, cond, _&&_, _||_}
 use mathlib.Core.List.{List, [], _∷_}
 use native.Mathlib.Omega.{arith}
-use lib.ListN.{length}
+use lib.ListN.{length, getD}
 use lib.Dec.{leb, eqb}
 use borrow.Author.Tests.{leb-true, leb-false, eqb-true, eqb-false, le-leb, lt-leb, eq-eqb, ne-eqb}
 use Rattle.model.specs.Limits.{longest-left, forever}
@@ -184,17 +184,29 @@ module _ (K : Rules) where
 
   pub blocked-insert : (e : Entry) (q : List Entry) → blocked (K .rank) (K .rank e) (insert (K .rank) e q) ≡ true
   unfolding blocked insert
-  blocked-insert e [] = le-leb (K .rank e) (K .rank e) (omega arith)
-  blocked-insert e (x ∷ q) =
-      by (leb (K .rank x) (K .rank e)) (λ h. rw h h) (λ h. rw h (le-leb (K .rank e) (K .rank e) (omega arith)))
+  blocked-insert e [] = rw (le-leb (K .rank e) (K .rank e) (omega arith))
+  blocked-insert e (x ∷ q) = by (leb (K .rank x) (K .rank e)) (λ h. rw h (rw h)) (λ h. rw h (rw (le-leb (K .rank e) (K .rank e) (omega arith))))
 
-  -- the head stays, so who was blocked stays blocked
-  pub blocked-more : (r : ℕ) (e : Entry) (q : List Entry) → r ≡ K .rank e → blocked (K .rank) r q ≡ true → blocked (K .rank) r (insert (K .rank) e q) ≡ true
+  -- all who wait stay, so who was blocked stays blocked
+  pub blocked-more : (r : ℕ) (e : Entry) (q : List Entry) → blocked (K .rank) r q ≡ true → blocked (K .rank) r (insert (K .rank) e q) ≡ true
   unfolding blocked insert
-  blocked-more r e [] k b = cc
-  blocked-more r e (x ∷ q) k b =
-      let h : leb (K .rank x) (K .rank e) ≡ true = rw k at b in
-      rw h b
+  blocked-more r e [] b = clash false b refl
+  blocked-more r e (x ∷ q) b =
+      by (leb (K .rank x) (K .rank e))
+      (λ h. rw h (by (leb (K .rank x) r) (λ g. rw g) (λ g. rw g (blocked-more r e q (rw g at b)))))
+      (λ h. rw h (or-t-r (leb (K .rank e) r) _ b))
+
+  -- nobody stands behind one of lower rank, so the head decides who is blocked
+  lead-blocks : (r : ℕ) (x : Entry) (q : List Entry) → leads (K .rank) x q ≡ true → leb (K .rank x) r ≡ false → blocked (K .rank) r q ≡ false
+  unfolding blocked
+  lead-blocks r x [] l h = refl
+  lead-blocks r x (y ∷ q) l h =
+      let o = open-leads x y q l in
+      or-f (leb (K .rank y) r) _ (lt-leb (K .rank y) r (omega (arith, o .order, leb-false (K .rank x) r h))) (lead-blocks r x q (o .rest) h)
+
+  pub head-blocks : (r : ℕ) (x : Entry) (q : List Entry) → queued K (x ∷ q) ≡ true → blocked (K .rank) r (x ∷ q) ≡ leb (K .rank x) r
+  unfolding blocked
+  head-blocks r x q o = by (leb (K .rank x) r) (λ h. rw h) (λ h. rw h (lead-blocks r x q (open-queued x q o .lead) h))
 
   -- ---- a tick keeps the queue in order
 
@@ -242,6 +254,21 @@ module _ (K : Rules) where
           lead = lead-remaining x q (o .lead);
           rest = remaining-queued q (o .rest);
         })))
+
+-- ---- the ranks do not fall from place to place
+
+module _ (K : Rules) where
+  lead-order : (x : Entry) (q : List Entry) (d : Entry) (j : ℕ) → leads (K .rank) x q ≡ true → j < length q → K .rank x ≤ K .rank (getD q j d)
+  lead-order x [] d j l h = absurd (omega arith)
+  lead-order x (y ∷ q) d zero l h = open-leads K x y q l .order
+  lead-order x (y ∷ q) d (suc j) l h = lead-order x q d j (open-leads K x y q l .rest) (omega arith)
+
+  pub queued-order : (q : List Entry) → queued K q ≡ true → (i j : ℕ) (d : Entry) → i ≤ j → j < length q → K .rank (getD q i d) ≤ K .rank (getD q j d)
+  queued-order [] o i j d k h = absurd (omega arith)
+  queued-order (x ∷ q) o zero zero d k h = omega arith
+  queued-order (x ∷ q) o zero (suc j) d k h = lead-order x q d j (open-queued K x q o .lead) (omega arith)
+  queued-order (x ∷ q) o (suc i) zero d k h = absurd (omega arith)
+  queued-order (x ∷ q) o (suc i) (suc j) d k h = queued-order q (open-queued K x q o .rest) i j d (omega arith) (omega arith)
 
 -- ---- a queue has no more entries than there are tasks
 

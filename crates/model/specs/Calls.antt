@@ -35,11 +35,12 @@ inRange K o = leb 8 (o .0) && ltb (o .0) (K .long)
 
 -- ---- calls and answers
 
--- The time limit is signed: -1 is forever, 0 makes the get a poll, positive is ticks.
+-- The time limit is signed: -1 is forever, 0 makes the get a poll, positive is ticks. The best priority is 1.
 pub record Request : Type 0 where
   pub task : ℕ
   pub size : ℕ
   pub limit : ℤ
+  pub priority : ℕ
 
 -- every call but create
 pub data Call : Type 0 where
@@ -49,8 +50,8 @@ pub data Call : Type 0 where
   tick : Call
   inquire : Call
 
-abbrev pub poll : ℕ → ℕ → Call
-poll t n = get (record { task = t; size = n; limit = pos 0 })
+abbrev pub poll : ℕ → ℕ → ℕ → Call
+poll t n priority = get (record { task = t; size = n; limit = pos 0; priority = priority })
 
 -- All that a caller is told. Reason and place are those of a refused release; they and inquire's three numbers are 0 where a call does not give them.
 pub record Said : Type 0 where
@@ -118,7 +119,7 @@ leftOf (pos n) = n + 1
 leftOf (negsuc n) = forever
 
 abbrev pub entryOf : Request → Entry
-entryOf r = record { task = r .task; size = r .size; left = leftOf (r .limit) }
+entryOf r = record { task = r .task; size = r .size; left = leftOf (r .limit); priority = r .priority }
 
 -- a task leaves the queue without a block
 abbrev pub leaves : ℤ → ℕ → Woken

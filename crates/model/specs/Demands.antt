@@ -6,12 +6,12 @@ use mathlib.Core.List.{List, [], _∷_, _++_}
 use mathlib.Core.Option.{none, some}
 use lib.Dec.{leb}
 use lib.IntN.{ℤ}
-use Rattle.model.specs.Limits.{e-ok, e-rlwai, e-tmout}
+use Rattle.model.specs.Limits.{e-ok, waiting, e-rlwai, e-tmout}
 use Rattle.model.specs.Blocks.{Block, total, liveCount}
 use Rattle.model.specs.Waiting.{Entry, waits, placeIn}
 use Rattle.model.specs.Rules.{Rules, Attributes, rules}
 use Rattle.model.specs.Calls.{BlockOffset, noOffset, Request, Call, get, release, cancel, tick, Reply, says, leaves, blocks, step}
-use Rattle.model.specs.Runs.{after, run, wakeCode, endCode, ticks, releases, gets, refusals, winners}
+use Rattle.model.specs.Runs.{after, run, wakings, servedBefore, wakeCode, endCode, ticks, releases, gets, refusals, winners}
 use Rattle.model.specs.Bytes.{blocksOf}
 use Rattle.model.specs.Pool.{Stored, view, waiters, waitBound, defaults, rulesOf, isSound, perform}
 
@@ -49,6 +49,12 @@ pub record Timeout {S : Type 0} (step : Call → S → Reply S) (entries : S →
 pub record Untimed {S : Type 0} (step : Call → S → Reply S) (entries : S → List Entry) (s : S) (t : ℕ) (cs : List Call) : Type 0 where
   pub ends : endCode t (run step s cs) ≡ none
   pub waiting : waits t (entries (after step s cs)) ≡ true
+
+-- Nobody is passed: the task t waits in the state s. A request r that is made there is not granted at once; and if it is told to wait, then in whatever
+-- calls follow, its wait does not end with a block before that of t has ended.
+pub record StaysBehind {S : Type 0} (step : Call → S → Reply S) (s : S) (t : ℕ) (r : Request) (cs : List Call) : Type 0 where
+  pub not-at-once : step (get r) s .said .code ≡ e-ok → ⊥
+  pub not-before : step (get r) s .said .code ≡ waiting → servedBefore (r .task) t (wakings (run step (step (get r) s .state) cs)) ≡ false
 
 -- The wait bound: one of the calls cs, made from the state s, ends the wait of the task t. None before it wakes the task, and fewer than n of those are
 -- successful releases: the wait ends at the latest in the n-th. If it is neither cancelled nor timed out, the task is served.

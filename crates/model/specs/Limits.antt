@@ -20,6 +20,10 @@ longest-limit = 2147483647
 abbrev pub longest-left : ℕ
 longest-left = longest-limit + 1
 
+-- priorities are numbered 1, the best, to this
+abbrev pub lowest-priority : ℕ
+lowest-priority = 16
+
 -- the time left of a wait without a limit
 abbrev pub forever : ℕ
 forever = 4294967295
@@ -33,6 +37,14 @@ without-kinds = 0
 -- or to the size kinds of the pool
 abbrev pub with-kinds : ℕ
 with-kinds = 1
+
+-- who asked first is served first
+abbrev pub fifo-order : ℕ
+fifo-order = 0
+
+-- or the best priority is, and among equals who asked first
+abbrev pub priority-order : ℕ
+priority-order = 1
 
 -- ---- codes, by their names in the µITRON 4.0 specification
 

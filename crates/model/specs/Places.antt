@@ -11,7 +11,7 @@ use Rattle.model.specs.Rules.{Attributes}
 use Rattle.model.specs.Calls.{Woken, noOffset}
 
 abbrev pub noEntry : Entry
-noEntry = record { task = 0; size = 0; left = 0 }
+noEntry = record { task = 0; size = 0; left = 0; priority = 0 }
 
 abbrev pub noWoken : Woken
 noWoken = record { task = 0; code = pos 0; offset = noOffset }
@@ -28,7 +28,7 @@ used [] = []
 used (e ∷ r) = cond (eqb (e .task) 0) [] (e ∷ used r)
 
 abbrev pub isUnused : Entry → Bool
-isUnused e = eqb (e .task) 0 && (eqb (e .size) 0 && eqb (e .left) 0)
+isUnused e = eqb (e .task) 0 && (eqb (e .size) 0 && (eqb (e .left) 0 && eqb (e .priority) 0))
 
 unfoldable pub allUnused : List Entry → Bool
 allUnused [] = true

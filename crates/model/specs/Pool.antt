@@ -7,7 +7,7 @@ use mathlib.Core.Option.{none}
 use lib.ListN.{length, getD}
 pub use Rattle.model.specs.declared.Answer.{Answer}
 pub use Rattle.model.specs.declared.Totals.{Totals}
-use Rattle.model.specs.Limits.{most-tasks, without-kinds, e-ok, e-par}
+use Rattle.model.specs.Limits.{most-tasks, without-kinds, fifo-order, priority-order, e-ok, e-par}
 use Rattle.model.specs.Blocks.{Block, block, liveCount}
 use Rattle.model.specs.Bytes.{blocksOf, render, erase}
 use Rattle.model.specs.Waiting.{Entry, placeIn}
@@ -24,12 +24,19 @@ stored l q = record { bytes = l; queue = q }
 
 -- the attributes of document 01's pool, and of the queue that a refused create hands out
 abbrev pub defaults : Attributes
-defaults = record { kinds = without-kinds; greatest = 0 }
+defaults = record { kinds = without-kinds; greatest = 0; order = fifo-order }
 
 -- what the types of the code say of a state: bytes are below 256, and the queue has its places
 pub record Typed (p : Stored) : Type 0 where
   pub byte : (i : ℕ) → getD (p .bytes) i 0 < 256
   pub places : length (p .queue .entries) ≡ most-tasks
+
+-- the pools of either order
+abbrev pub Fifo : Stored → Type 0
+Fifo p = p .queue .attributes .order ≡ fifo-order
+
+abbrev pub ByPriority : Stored → Type 0
+ByPriority p = p .queue .attributes .order ≡ priority-order
 
 -- the block list and the entries
 unfoldable pub view : Stored → State (List Block)

@@ -1,10 +1,10 @@
 -- What may vary from pool to pool, what is asked of it, and the pools that create makes.
 use Prim.Native.Nat.{ℕ, _+_, _-_, _*_, _/_, _%_, _≤_, _<_}
 use mathlib.Core.Path.{_≡_}
-use mathlib.Core.Bool.{Bool, true, cond, _&&_}
+use mathlib.Core.Bool.{Bool, true, cond, _&&_, _||_}
 use mathlib.Core.List.{List, [], _∷_}
 use lib.Dec.{leb, eqb}
-use Rattle.model.specs.Limits.{most-tasks, longest-pool, without-kinds, with-kinds}
+use Rattle.model.specs.Limits.{most-tasks, longest-pool, lowest-priority, without-kinds, with-kinds, fifo-order, priority-order}
 use Rattle.model.specs.Sizes.{kindFor, okGreatest}
 use Rattle.model.specs.Waiting.{Entry, leads, okLeft, withLeft}
 pub use Rattle.model.specs.declared.Attributes.{Attributes}
@@ -52,9 +52,17 @@ okLong n = eqb (n % 4) 0 && (leb 12 n && leb n longest-pool)
 abbrev pub withoutKinds : Attributes → Bool
 withoutKinds a = eqb (a .kinds) without-kinds
 
--- what create takes besides a length: without kinds no greatest request, with kinds one that the pool has room for, and no other choice
+-- without kinds no greatest request, with kinds one that the pool has room for, and no other choice
+abbrev pub okKinds : Attributes → ℕ → Bool
+okKinds a n = cond (withoutKinds a) (eqb (a .greatest) 0) (eqb (a .kinds) with-kinds && okGreatest (a .greatest) n)
+
+-- FIFO or priority
+abbrev pub okOrder : ℕ → Bool
+okOrder o = eqb o fifo-order || eqb o priority-order
+
+-- what create takes besides a length
 abbrev pub okAttributes : Attributes → ℕ → Bool
-okAttributes a n = cond (withoutKinds a) (eqb (a .greatest) 0) (eqb (a .kinds) with-kinds && okGreatest (a .greatest) n)
+okAttributes a n = okOrder (a .order) && okKinds a n
 
 -- the greatest size that may be asked: N - 8, with kinds the greatest request
 abbrev pub mostAsked : Attributes → ℕ → ℕ
@@ -64,6 +72,14 @@ mostAsked a n = cond (withoutKinds a) (n - 8) (a .greatest)
 abbrev pub okSize : ℕ → ℕ → Bool
 okSize most size = leb 1 size && leb size most
 
+-- priorities are 1 to the lowest, in either order
+abbrev pub okPriority : ℕ → Bool
+okPriority p = leb 1 p && leb p lowest-priority
+
+-- the rank of an entry: its priority where the order is by priority; else all are of one rank, so that who asked first is served first
+abbrev pub rankBy : ℕ → Entry → ℕ
+rankBy order e = cond (eqb order priority-order) (e .priority) 0
+
 -- rounded up to a multiple of 4, with kinds to the smallest in use that holds the size
 abbrev pub rounded : Attributes → ℕ → ℕ
 rounded a size = cond (withoutKinds a) ((size + 3) / 4 * 4) (kindFor (a .greatest) size)
@@ -72,14 +88,14 @@ rounded a size = cond (withoutKinds a) ((size + 3) / 4 * 4) (kindFor (a .greates
 abbrev pub needOf : Attributes → ℕ → ℕ
 needOf a size = rounded a size + 8
 
--- the rules of a pool of n bytes made with the attributes a: who asked first is served first
+-- the rules of a pool of n bytes made with the attributes a
 unfoldable pub rules : Attributes → ℕ → Rules
 rules a n =
     record {
       valid = okLong n && okAttributes a n;
       long = n;
       tasks = most-tasks;
-      allowed = λ e. okSize (mostAsked a n) (e .size);
+      allowed = λ e. okSize (mostAsked a n) (e .size) && okPriority (e .priority);
       need = needOf a;
-      rank = λ e. 0;
+      rank = rankBy (a .order);
     }

@@ -2,7 +2,7 @@
 use Prim.Native.Nat.{ℕ, zero, suc, _+_}
 use mathlib.Core.Path.{_≡_}
 use mathlib.Core.Bool.{Bool, true, false, not, cond, _&&_}
-use mathlib.Core.List.{List, [], _∷_}
+use mathlib.Core.List.{List, [], _∷_, _++_}
 use mathlib.Core.Option.{Option, none, some}
 use lib.Dec.{ltb, eqb}
 use lib.IntN.{ℤ, pos, negsuc}
@@ -66,6 +66,16 @@ pub record Spared (t : ℕ) (l : List Turn) : Type 0 where
   pub unserved : endCode t l ≡ some e-ok → ⊥
   pub uncancelled : endCode t l ≡ some e-rlwai → ⊥
 
+-- all whom a run wakes, in order
+unfoldable pub wakings : List Turn → List Woken
+wakings [] = []
+wakings (x ∷ l) = x .said .woken ++ wakings l
+
+-- the wait of the task u ends with a block, before that of the task t has ended
+unfoldable pub servedBefore : (u t : ℕ) → List Woken → Bool
+servedBefore u t [] = false
+servedBefore u t (w ∷ ws) = cond (eqb (w .task) t) false (cond (eqb (w .task) u) (isZero (w .code)) (servedBefore u t ws))
+
 -- the ticks that pass with a call
 abbrev pub passes : Call → ℕ
 passes (get r) = 0
@@ -107,6 +117,10 @@ module _ (rank : Entry → ℕ) where
   Unpassed t r [] = Unit {0}
   Unpassed t r (x ∷ l) = (outranks r (x .said) (x .call) ≡ false) × (wakeCode t (x .said .woken) ≡ none → Unpassed t r l)
 
+-- no request of better priority than k
+abbrev pub NoneBetter : ℕ → ℕ → List Turn → Type 0
+NoneBetter t k l = Unpassed (λ e. e .priority) t k l
+
 -- ---- lists of gets
 
 unfoldable pub gets : List Request → List Call
@@ -145,3 +159,7 @@ Others t (r ∷ rs) = (r .task ≡ t → ⊥) × (r .limit ≡ pos 0 → ⊥) ×
 unfoldable pub Ranked : (Entry → ℕ) → ℕ → List Request → Type 0
 Ranked rank k [] = Unit {0}
 Ranked rank k (r ∷ rs) = (rank (entryOf r) ≡ k) × Ranked rank k rs
+
+-- all of the priority k
+abbrev pub OfPriority : ℕ → List Request → Type 0
+OfPriority k rs = Ranked (λ e. e .priority) k rs

@@ -1,9 +1,9 @@
--- Document 01's examples marked *, the reasons of a refused release, the greatest time limit, and size kinds, as one table: in each row a pool is created and called, and all that is expected is written down.
+-- Document 01's examples marked *, the reasons of a refused release, the greatest time limit, size kinds, and priorities, as one table: in each row a pool is created and called, and all that is expected is written down.
 use Prim.Native.Nat.{ℕ, _+_, _-_}
 use mathlib.Core.List.{List, [], _∷_, _++_}
 use lib.ListN.{replicate}
 use lib.IntN.{ℤ, pos}
-use Rattle.model.specs.Limits.{with-kinds, forever, minus, e-ok, waiting, e-par, e-id, e-ctx, e-obj, e-rlwai, e-tmout, out-of-range, misaligned, already-free, inside-block}
+use Rattle.model.specs.Limits.{lowest-priority, with-kinds, fifo-order, priority-order, forever, minus, e-ok, waiting, e-par, e-id, e-ctx, e-obj, e-rlwai, e-tmout, out-of-range, misaligned, already-free, inside-block}
 use Rattle.model.specs.Blocks.{Block, block}
 use Rattle.model.specs.Waiting.{Entry}
 use Rattle.model.specs.Rules.{Attributes, rules}
@@ -58,12 +58,18 @@ playedAll (r ∷ rs) = played r ∷ playedAll rs
 
 -- ---- the rows
 
--- a get has no limit where none is given
+-- a get has no limit and the lowest priority where none is given
+abbrev pub wantsBy : ℕ → ℕ → ℕ → Call
+wantsBy priority t n = get (record { task = t; size = n; limit = minus 1; priority = priority })
+
 abbrev pub wants : ℕ → ℕ → Call
-wants t n = get (record { task = t; size = n; limit = minus 1 })
+wants t n = wantsBy lowest-priority t n
 
 abbrev pub wantsFor : ℕ → ℕ → ℕ → Call
-wantsFor t n limit = get (record { task = t; size = n; limit = pos limit })
+wantsFor t n limit = get (record { task = t; size = n; limit = pos limit; priority = lowest-priority })
+
+abbrev pub polls : ℕ → ℕ → Call
+polls t n = poll t n lowest-priority
 
 abbrev pub at : ℕ → Call
 at o = release (record { 0 = o })
@@ -77,8 +83,11 @@ told-why r p = record { code = e-par; offset = record { 0 = 0 }; reason = r; pla
 abbrev woke : ℕ → ℤ → ℕ → Woken
 woke t c o = record { task = t; code = c; offset = record { 0 = o } }
 
-abbrev waitsFor : ℕ → ℕ → ℕ → Entry
-waitsFor t n left = record { task = t; size = n; left = left }
+abbrev pub waitsFor : ℕ → ℕ → ℕ → Entry
+waitsFor t n left = record { task = t; size = n; left = left; priority = lowest-priority }
+
+abbrev pub waitsBy : ℕ → ℕ → ℕ → Entry
+waitsBy priority t n = record { task = t; size = n; left = forever; priority = priority }
 
 abbrev line : Call → Said → List Block → List Entry → Line
 line c a bs q = record { call = c; said = a; blocks = bs; queue = q }
@@ -130,7 +139,7 @@ row-f =
       made = defaults;
       long = 64;
       code = e-ok;
-      lines = to-e ++ (line (poll 5 4) (told e-tmout 0 []) blocks-c queue-e
+      lines = to-e ++ (line (polls 5 4) (told e-tmout 0 []) blocks-c queue-e
           ∷ line inquire (record { code = e-ok; offset = record { 0 = 0 }; reason = 0; place = record { 0 = 0 }; woken = []; sum = 8; greatest = 8; head = 3 }) blocks-c queue-e
           ∷ []);
       bytes = bytes-c;
@@ -270,9 +279,9 @@ row-refused =
       code = e-ok;
       lines = to-e ++ (line (wants 33 4) (told e-id 0 []) blocks-c queue-e
           ∷ line (wants 0 57) (told e-id 0 []) blocks-c queue-e
-          ∷ line (poll 3 0) (told e-par 0 []) blocks-c queue-e
-          ∷ line (poll 3 4) (told e-ctx 0 []) blocks-c queue-e
-          ∷ line (poll 5 4) (told e-tmout 0 []) blocks-c queue-e
+          ∷ line (polls 3 0) (told e-par 0 []) blocks-c queue-e
+          ∷ line (polls 3 4) (told e-ctx 0 []) blocks-c queue-e
+          ∷ line (polls 5 4) (told e-tmout 0 []) blocks-c queue-e
           ∷ line (cancel 33) (told e-id 0 []) blocks-c queue-e
           ∷ line (cancel 5) (told e-obj 0 []) blocks-c queue-e
           ∷ []);
@@ -320,7 +329,7 @@ row-reasons-least =
 -- with size kinds
 
 abbrev pub kinds : ℕ → Attributes
-kinds m = record { kinds = with-kinds; greatest = m }
+kinds m = record { kinds = with-kinds; greatest = m; order = fifo-order }
 
 -- the greatest request is 20, so the kinds are 12 and 36: 1 is rounded to 12, 13 and 20 to 36, and 21 is refused
 abbrev pub row-kinds : Row
@@ -342,13 +351,74 @@ row-kinds =
       bytes = head 20 4 ++ body 12 ++ head 44 2 ++ body 36;
     }
 
+-- by priority
+
+abbrev pub by-priority : Attributes
+by-priority = record { kinds = 0; greatest = 0; order = priority-order }
+
+-- after c, in either order: priorities 0 and 17 are refused, after the test of the task and before that for one that waits
+abbrev out-of-priorities : List Block → List Entry → List Line
+out-of-priorities bs q =
+    line (wantsBy 0 5 4) (told e-par 0 []) bs q
+    ∷ line (poll 5 4 17) (told e-par 0 []) bs q
+    ∷ line (wantsBy 0 33 4) (told e-id 0 []) bs q
+    ∷ line (wantsBy 17 3 4) (told e-par 0 []) bs q
+    ∷ []
+
+-- task 3 waits with priority 9. A poll of priority 9 is refused and one of priority 1 granted; its release wakes nobody. Then tasks 4, 5 and 6 wait with
+-- priorities 9, 1 and 16. A release does not serve task 5, so nobody behind it; when it leaves, tasks 3 and 4 are served, and task 6 is not.
+abbrev pub row-priority : Row
+row-priority =
+    let three = waitsBy 9 3 12 ∷ [] in
+    let four = waitsBy 9 3 12 ∷ waitsBy 9 4 4 ∷ [] in
+    let six = waitsBy 1 5 20 ∷ waitsBy 9 3 12 ∷ waitsBy 9 4 4 ∷ waitsBy 16 6 4 ∷ [] in
+    record {
+      made = by-priority;
+      long = 64;
+      code = e-ok;
+      lines = to-c ++ (line (wantsBy 9 3 12) (told waiting 0 []) blocks-c three ∷ []) ++ out-of-priorities blocks-c three
+          ++ (line (poll 5 4 9) (told e-tmout 0 []) blocks-c three
+          ∷ line (poll 5 4 1) (told e-ok 56 []) (block 20 1 ∷ block 28 2 ∷ block 16 5 ∷ []) three
+          ∷ line (at 56) (told e-ok 0 []) blocks-c three
+          ∷ line (wantsBy 9 4 4) (told waiting 0 []) blocks-c four
+          ∷ line (wantsBy 1 5 20) (told waiting 0 []) blocks-c (waitsBy 1 5 20 ∷ four)
+          ∷ line (wantsBy 16 6 4) (told waiting 0 []) blocks-c six
+          ∷ line (at 8) (told e-ok 0 []) (block 20 0 ∷ block 28 2 ∷ block 16 0 ∷ []) six
+          ∷ line (cancel 5) (told e-ok 0 (woke 5 e-rlwai 0 ∷ woke 3 e-ok 8 ∷ woke 4 e-ok 56 ∷ [])) (block 20 3 ∷ block 28 2 ∷ block 16 4 ∷ []) (waitsBy 16 6 4 ∷ [])
+          ∷ []);
+      bytes = head 20 3 ++ body 12 ++ head 28 2 ++ body 20 ++ head 16 4 ++ body 8;
+    }
+
+-- who asked first is served first, whatever the priorities
+abbrev pub row-fifo : Row
+row-fifo =
+    let three = waitsBy 9 3 12 ∷ [] in
+    let four = waitsBy 9 3 12 ∷ waitsBy 1 4 4 ∷ [] in
+    record {
+      made = defaults;
+      long = 64;
+      code = e-ok;
+      lines = to-c ++ (line (wantsBy 9 3 12) (told waiting 0 []) blocks-c three ∷ []) ++ out-of-priorities blocks-c three
+          ++ (line (poll 5 4 1) (told e-tmout 0 []) blocks-c three
+          ∷ line (wantsBy 1 4 4) (told waiting 0 []) blocks-c four
+          ∷ line (at 8) (told e-ok 0 (woke 3 e-ok 8 ∷ woke 4 e-ok 56 ∷ [])) (block 20 3 ∷ block 28 2 ∷ block 16 4 ∷ []) []
+          ∷ []);
+      bytes = head 20 3 ++ body 12 ++ head 28 2 ++ body 20 ++ head 16 4 ++ body 8;
+    }
+
 -- what create refuses: the pool keeps its bytes
 abbrev row-refused-of : Attributes → Row
 row-refused-of a = record { made = a; long = 40; code = e-par; lines = []; bytes = body 40 }
 
--- the top kind of 37 is 84; a greatest request without kinds; an unknown choice
+-- the top kind of 37 is 84; a greatest request without kinds; an unknown choice of kinds, and of the order
 abbrev pub rows-refused : List Row
-rows-refused = row-refused-of (kinds 0) ∷ row-refused-of (kinds 37) ∷ row-refused-of (record { kinds = 0; greatest = 1 }) ∷ row-refused-of (record { kinds = 2; greatest = 1 }) ∷ []
+rows-refused =
+    row-refused-of (kinds 0)
+    ∷ row-refused-of (kinds 37)
+    ∷ row-refused-of (record { kinds = 0; greatest = 1; order = 0 })
+    ∷ row-refused-of (record { kinds = 2; greatest = 1; order = 0 })
+    ∷ row-refused-of (record { kinds = 0; greatest = 0; order = 2 })
+    ∷ []
 
 abbrev pub table : List Row
-table = row-a ∷ row-b ∷ row-c ∷ row-e ∷ row-f ∷ row-g ∷ row-h ∷ row-i ∷ row-j ∷ row-k 64 56 ∷ row-k 12 4 ∷ row-l ∷ row-longest ∷ row-split ∷ row-whole ∷ row-join ∷ row-stuck ∷ row-refused ∷ row-reasons ∷ row-reasons-least ∷ row-kinds ∷ rows-refused
+table = row-a ∷ row-b ∷ row-c ∷ row-e ∷ row-f ∷ row-g ∷ row-h ∷ row-i ∷ row-j ∷ row-k 64 56 ∷ row-k 12 4 ∷ row-l ∷ row-longest ∷ row-split ∷ row-whole ∷ row-join ∷ row-stuck ∷ row-refused ∷ row-reasons ∷ row-reasons-least ∷ row-kinds ∷ row-priority ∷ row-fifo ∷ rows-refused

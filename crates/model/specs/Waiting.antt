@@ -39,10 +39,10 @@ module _ (rank : Entry → ℕ) where
   insert e [] = e ∷ []
   insert e (x ∷ q) = cond (leb (rank x) (rank e)) (x ∷ insert e q) (e ∷ x ∷ q)
 
-  -- somebody waits who is served before a newcomer of rank r; in a queue in order that is its head, if anyone
+  -- somebody of lower or equal rank waits, who is served before a newcomer of rank r
   unfoldable pub blocked : ℕ → List Entry → Bool
   blocked r [] = false
-  blocked r (x ∷ q) = leb (rank x) r
+  blocked r (x ∷ q) = leb (rank x) r || blocked r q
 
   -- x stands before each of the others: another task, and no higher rank
   unfoldable pub leads : Entry → List Entry → Bool
@@ -57,7 +57,7 @@ okLeft l = leb 1 l && (leb l longest-left || eqb l forever)
 
 -- the entry with another time left
 abbrev pub withLeft : ℕ → Entry → Entry
-withLeft l e = record { task = e .task; size = e .size; left = l }
+withLeft l e = record { task = e .task; size = e .size; left = l; priority = e .priority }
 
 -- a tick ends the wait
 abbrev pub expires : Entry → Bool

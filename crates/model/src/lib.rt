@@ -6,6 +6,9 @@ pub const TASKS: usize = 32;
 // The greatest length of a pool, in bytes.
 pub const LONGEST_POOL: usize = 65536;
 
+// Priorities are numbered 1, the best, to this.
+pub const LOWEST_PRIORITY: u32 = 16;
+
 // The code of a get that was told to wait.
 pub const WAITING: i32 = 1;
 
@@ -41,9 +44,10 @@ pub struct BlockOffset(pub usize);
 // The place of a header in the pool.
 pub struct HeaderPlace(pub usize);
 
-// A waiting request: the task, the size as asked, and the ticks left (FOREVER: no limit). All zeros: an unused place.
+// A waiting request: the task, the priority, 1 best, the size as asked, and the ticks left (FOREVER: no limit). All zeros: an unused place.
 pub struct Entry {
-    pub task: u32,
+    pub task: u16,
+    pub priority: u16,
     pub size: u32,
     pub left: u32,
 }
@@ -54,19 +58,26 @@ pub const FOREVER: u32 = 4294967295;
 pub const LONGEST_LEFT: u32 = 2147483648;
 
 // The choices of how a size asked is rounded: up to a multiple of 4, or to the size kinds of the pool.
-pub const WITHOUT_KINDS: u32 = 0;
+pub const WITHOUT_KINDS: u16 = 0;
 
-pub const WITH_KINDS: u32 = 1;
+pub const WITH_KINDS: u16 = 1;
 
-// What create is told of a pool, and the queue keeps: the choice, and the greatest request of a pool with kinds (0 without).
+// The choices of whom to serve first: who asked first, or the best priority and among equals who asked first.
+pub const FIFO_ORDER: u16 = 0;
+
+pub const PRIORITY_ORDER: u16 = 1;
+
+// What create is told of a pool, and the queue keeps: the choices of rounding and of order, and the greatest request of a pool with kinds (0 without).
 pub struct Attributes {
-    pub kinds: u32,
+    pub kinds: u16,
+    pub order: u16,
     pub greatest: u32,
 }
 
 // Those of document 01's pool, all zeros.
 pub const DEFAULTS: Attributes = Attributes {
     kinds: WITHOUT_KINDS,
+    order: FIFO_ORDER,
     greatest: 0,
 };
 

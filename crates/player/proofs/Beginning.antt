@@ -14,10 +14,10 @@ use Rattle.model.specs.Limits.{e-par}
 use Rattle.model.specs.Rules.{rules}
 use Rattle.model.specs.Pool.{Result, Stored, stored, create, result, created}
 use Rattle.model.proofs.Tests.{by}
-use Rattle.numbers.specs.declared.Number.the-variants.{Value}
-use Rattle.numbers.specs.Number.{numberOf}
 use Rattle.numbers.specs.Wrote.{Wrote}
 use Rattle.numbers.proofs.Wrote.{wrote-parts}
+use Rattle.log.specs.declared.Start.the-variants as start
+use Rattle.log.specs.Log.{startOf}
 use Rattle.transcript.specs.Lines.{poolLine, longestLine}
 use Rattle.transcript.specs.Transcript.{longestLog, recordsText, freshPool, transcriptOf}
 use Rattle.transcript.proofs.Theorems.{freshPool-code, transcript-pool}
@@ -35,12 +35,12 @@ take-zeros zero m h = refl
 take-zeros (suc n) zero h = absurd (omega (arith, h))
 take-zeros (suc n) (suc m) h = ap (λ (l : List ℕ). 0 ∷ l) (take-zeros n m (omega (arith, h)))
 
-pub lent : {log text : List ℕ} {start m : ℕ} (n : ℕ) → length log ≤ longestLog → length text ≡ textSpace → numberOf log ≡ Value n start → n ≤ m
-    → Lent log text start (take n (replicate m 0))
-lent {log} {text} {start} {m} n h t e k =
+pub lent : {log text : List ℕ} {place m : ℕ} (a : Attributes) (n : ℕ) → length log ≤ longestLog → length text ≡ textSpace → startOf log ≡ start.Taken n (a .order) place → n ≤ m
+    → Lent log text place a (take n (replicate m 0))
+lent {log} {text} {place} {m} a n h t e k =
     let z : take n (replicate {A = ℕ} m 0) ≡ replicate n 0 = take-zeros n m k in
     let same : length (take n (replicate {A = ℕ} m 0)) ≡ n = ap length z ∙ length-replicate n 0 in
-    record { short-log = h; space = t; number = rw same e; zeros = z ∙ ap (λ (i : ℕ). replicate i 0) (sym same) }
+    record { short-log = h; space = t; first = rw same e; zeros = z ∙ ap (λ (i : ℕ). replicate i 0) (sym same) }
 
 -- a pool that is not refused has a valid length and valid attributes
 valid : (a : Attributes) (n : ℕ) → ofZ w32 (freshPool a n .said .code) ≡ 0 → rules a n .valid ≡ true
@@ -54,14 +54,14 @@ keeps : (a : Attributes) (n : ℕ) → rules a n .valid ≡ true → freshPool a
 unfolding create
 keeps a n v = rw (length-replicate, v)
 
-pub begun : {log text text′ : List ℕ} {start next : ℕ} (a : Attributes) (l l′ : List ℕ) (r : Answer) → Lent log text start l → result r l′ ≡ created a l → ofZ w32 (r .code) ≡ 0
+pub begun : {log text text′ : List ℕ} {place next : ℕ} (a : Attributes) (l l′ : List ℕ) (r : Answer) → Lent log text place a l → result r l′ ≡ created a l → ofZ w32 (r .code) ≡ 0
     → length l′ ≡ length l → Wrote text 0 (poolLine (length l′)) text′ next → length (poolLine (length l′)) ≤ longestLine
-    → transcriptOf (r .queue .attributes) log ≡ take next text′ ++ recordsText 0 start 0 (stored l′ (r .queue)) (drop start log)
-begun {log} {text} {text′} {start} {next} a l l′ r h e k same w m =
+    → transcriptOf (r .queue .attributes) log ≡ take next text′ ++ recordsText 0 place 0 (stored l′ (r .queue)) (drop place log)
+begun {log} {text} {text′} {place} {next} a l l′ r h e k same w m =
     let n = length l in
     let made : result r l′ ≡ created a (replicate n 0) = e ∙ ap (created a) (h .zeros) in
     let code : ofZ w32 (freshPool a n .said .code) ≡ 0 = sym (ap {B = ℕ} (λ (x : Result). ofZ w32 (x .answer .code)) made) ∙ k in
     let state : stored l′ (r .queue) ≡ freshPool a n .state = ap {B = Stored} (λ (x : Result). stored (x .bytes) (x .answer .queue)) made in
     let v = valid a n code in
     let kept : r .queue .attributes ≡ a = ap (λ (x : Stored). x .queue .attributes) state ∙ keeps a n v in
-    ap (λ (x : Attributes). transcriptOf x log) kept ∙ rw (written w (omega (arith, m, h .space)), same, state) (transcript-pool a log (h .short-log) n start (h .number) v)
+    ap (λ (x : Attributes). transcriptOf x log) kept ∙ rw (written w (omega (arith, m, h .space)), same, state) (transcript-pool a log (h .short-log) n (a .order) place (h .first) v)

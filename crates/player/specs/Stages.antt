@@ -4,10 +4,11 @@ use mathlib.Core.Path.{_≡_}
 use mathlib.Core.Bool.{false, cond}
 use mathlib.Core.List.{List, [], _++_}
 use lib.ListN.{length, take, drop, replicate}
+use Rattle.model.specs.declared.Attributes.{Attributes}
 use Rattle.model.specs.Pool.{stored}
-use Rattle.numbers.specs.declared.Number.the-variants.{Value}
-use Rattle.numbers.specs.Number.{numberOf}
 use Rattle.numbers.specs.Wrote.{Wrote}
+use Rattle.log.specs.declared.Start.the-variants as start
+use Rattle.log.specs.Log.{startOf}
 use Rattle.transcript.specs.Lines.{longestLine}
 use Rattle.transcript.specs.Transcript.{longestLog, recordsText, transcriptOf}
 use Rattle.player.specs.declared.stages.Stage.{Stage}
@@ -38,11 +39,11 @@ pub record Ready (log text : List ℕ) (s : Stage) : Type 0 where
 abbrev pub Begun : List ℕ → List ℕ → List ℕ → Stage → Type 0
 Begun log l text s = transcriptOf (s .queue .attributes) log ≡ take (s .end) text ++ pending log l s
 
--- the pool's length as the log has it, the place behind it, and a pool of zeros
-pub record Lent (log text : List ℕ) (start : ℕ) (l : List ℕ) : Type 0 where
+-- the pool's length and order as the log has them, the place behind them, and a pool of zeros
+pub record Lent (log text : List ℕ) (place : ℕ) (a : Attributes) (l : List ℕ) : Type 0 where
   pub short-log : length log ≤ longestLog
   pub space : length text ≡ textSpace
-  pub number : numberOf log ≡ Value (length l) start
+  pub first : startOf log ≡ start.Taken (length l) (a .order) place
   pub zeros : l ≡ replicate (length l) 0
 
 -- From the stage s to s′: the text that was left is what was written behind `s .end`, and then what is left now.

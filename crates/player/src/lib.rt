@@ -3,6 +3,7 @@ use log::Read;
 use log::Record;
 use model::Answer;
 use model::BlockOffset;
+use model::LOWEST_PRIORITY;
 use model::Queue;
 use model::TASKS;
 ghost use mathlib.Core.Path.{_≡_};
@@ -19,10 +20,10 @@ pub mod stages;
 // The most bytes of a step's text: the line of the answer and a line for each task.
 pub const LONGEST_STEP: usize = 1505;
 
-// The queue that a record leaves, and the place after its text.
+// The place after the text of a record, and the queue that it leaves.
 pub struct Progress {
-    pub queue: Queue,
     pub end: usize,
+    pub queue: Queue,
 }
 
 // Makes the call of a record, and writes the line of its answer and one for each woken task: the places before the first with task 0.
@@ -45,8 +46,8 @@ pub fn step(pool: &mut [u8], queue: Queue, made: Record, out: &mut [u8], at: usi
     }
     let left = answer.queue;
     Progress {
-        queue: left,
         end: next,
+        queue: left,
     }
 }
 
@@ -62,15 +63,23 @@ pub fn last(read: Read, place: usize, count: usize, out: &mut [u8], at: usize) -
     }
 }
 
-// The call that a record stands for.
+// The call that a record stands for; a get or poll without a priority has the lowest.
 pub fn call(pool: &mut [u8], queue: Queue, made: Record) -> Answer
     ensures { λ r. ⌜ result r (now (pool .exit)) ≡ called (callOf made) (now (pool .entry)) queue ⌝ }
 {
     match made {
-        Record::Get(task, size, limit) => pool::get(pool, queue, task, size, limit),
-        Record::Poll(task, size) => pool::poll(pool, queue, task, size),
+        Record::Get(task, size, limit) => {
+            pool::get(pool, queue, task, size, limit, LOWEST_PRIORITY)
+        }
+        Record::Poll(task, size) => pool::poll(pool, queue, task, size, LOWEST_PRIORITY),
         Record::Release(offset) => pool::release(pool, queue, BlockOffset(offset as usize)),
         Record::Cancel(task) => pool::cancel(pool, queue, task),
         Record::Tick => pool::tick(pool, queue),
+        Record::PriorityGet(task, size, limit, priority) => {
+            pool::get(pool, queue, task, size, limit, priority)
+        }
+        Record::PriorityPoll(task, size, priority) => {
+            pool::poll(pool, queue, task, size, priority)
+        }
     }
 }

@@ -2,10 +2,10 @@
 use crate::LONGEST_STEP;
 use log::LONGEST_LOG;
 use log::Read;
+use log::Start;
 use model::Attributes;
 use model::LONGEST_POOL;
 use model::Queue;
-use numbers::Number;
 ghost use Prim.Native.Nat.{_≤_};
 ghost use mathlib.Core.Path.{_≡_};
 ghost use lib.ListN.{length, take};
@@ -15,14 +15,13 @@ ghost use Rattle.player.specs.Stages.{textSpace, Ready, Begun, Lent, Pla
 // The bytes of text that are gathered before they are written.
 const TEXT_SPACE: usize = 65536;
 
-// How far a log is replayed: its place, the records taken, the queue, the end of the text gathered, and whether that is the
-// last of it.
+// How far a log is replayed: its place, the records taken, the end of the text gathered, whether that is the last of it, and the queue.
 struct Stage {
     at: usize,
     count: usize,
-    queue: Queue,
     end: usize,
     over: bool,
+    queue: Queue,
 }
 
 // Writes the first `end` bytes of the text. Answers whether all were taken.
@@ -48,9 +47,9 @@ fn play(log: &[u8], from: Stage, pool: &mut [u8], text: &mut [u8]) -> Stage
             return Stage {
                 at: at,
                 count: count,
-                queue: queue,
                 end: last,
                 over: true,
+                queue: queue,
             };
         };
         let done = crate::step(pool, queue, made, text, end);
@@ -62,9 +61,9 @@ fn play(log: &[u8], from: Stage, pool: &mut [u8], text: &mut [u8]) -> Stage
     Stage {
         at: at,
         count: count,
-        queue: queue,
         end: end,
         over: false,
+        queue: queue,
     }
 }
 
@@ -87,7 +86,7 @@ fn write_text(log: &[u8], first: Stage, pool: &mut [u8], text: &mut [u8])
 
 // The pool is created, and the records from the place `start` of the log on are made on it.
 fn run(log: &[u8], start: usize, pool: &mut [u8], attributes: Attributes, text: &mut [u8])
-    requires { ⌜ Lent (now log) (now text) start (now pool) ⌝ }
+    requires { ⌜ Lent (now log) (now text) start attributes (now pool) ⌝ }
 {
     let made = pool::create(pool, attributes);
     if made.code != 0 {
@@ -100,9 +99,9 @@ fn run(log: &[u8], start: usize, pool: &mut [u8], attributes: Attributes, text: 
     let first = Stage {
         at: start,
         count: 0,
-        queue: queue,
         end: end,
         over: false,
+        queue: queue,
     };
     write_text(log, first, pool, text);
 }
@@ -116,7 +115,7 @@ fn lend(
     attributes: Attributes,
     text: &mut [u8],
 )
-    requires { ⌜ Lent (now log) (now text) start (take n (now buffer)) × (n ≤ length (now buffer)) ⌝ }
+    requires { ⌜ Lent (now log) (now text) start attributes (take n (now buffer)) × (n ≤ length (now buffer)) ⌝ }
 {
     run(log, start, &mut buffer[0..n], attributes, text);
 }
@@ -125,8 +124,8 @@ fn lend(
 fn begin(log: &[u8], attributes: Attributes, text: &mut [u8])
     requires { ⌜ (length (now log) ≤ longestLog) × (length (now text) ≡ textSpace) ⌝ }
 {
-    let length = log::read_length(log);
-    let Number::Value(n, start) = length else {
+    let begun = log::read_start(log);
+    let Start::Taken(n, order, start) = begun else {
         let end = transcript::bad_line(text, 0, 0);
         flush(text, end);
         return;
@@ -137,11 +136,16 @@ fn begin(log: &[u8], attributes: Attributes, text: &mut [u8])
         flush(text, end);
         return;
     }
+    let own = Attributes {
+        kinds: attributes.kinds,
+        order: order,
+        greatest: attributes.greatest,
+    };
     let mut buffer = [0u8; 65536];
-    lend(log, start, &mut buffer, n, attributes, text);
+    lend(log, start, &mut buffer, n, own, text);
 }
 
-// Replays a log on a pool of zeros with these attributes, and writes its text to standard output.
+// Replays a log on a pool of zeros with these attributes but for the order, which the log says, and writes its text to standard output.
 pub fn replay(log: &[u8], attributes: Attributes) {
     let mut text = [0u8; 65536];
     if LONGEST_LOG < log.len() {

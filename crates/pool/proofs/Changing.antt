@@ -24,8 +24,9 @@ use Rattle.model.specs.Places.{noEntry, pad, used, tidy, entriesOf, queueOf, wo
 use Rattle.model.specs.Pool.{Stored, stored, view, settled, defaults, isSound, create, Result, result, answered, created, called, inquired, totals}
 use Rattle.model.proofs.Tests.{and-l, and-r, and-f-r}
 use Rattle.model.proofs.Blocks.{freed-total, freed-tiled, fits-greatest, starts}
-use Rattle.model.proofs.Bytes.{erase-length, erase-render, erase-erase, tiled-roomy, freed-finer}
+use Rattle.model.proofs.Bytes.{Bytes, erase-length, erase-render, erase-erase, tiled-roomy, freed-finer}
 use Rattle.model.proofs.Waiting.{remove-queued, remove-count, remaining-queued, expired-count, queued-length}
+use Rattle.model.proofs.Serving.{serve-stuck, stuck-remaining}
 use Rattle.model.proofs.Soundness.{leave-length}
 use Rattle.model.proofs.Places.{queued-live, used-pad, tidy-pad}
 use Rattle.model.proofs.Pool.{by-unsound, by-done}
@@ -45,7 +46,7 @@ use Rattle.queue.proofs.Places.{sets-behind}
 use Rattle.queue.proofs.Entries.{head-task}
 use Rattle.pool.specs.declared.state.Reason.{Reason}
 use Rattle.pool.specs.Steps.{rulesIn, refusal, misplacedIn, reasonOf, servedAs, Ready}
-use Rattle.pool.proofs.Inspecting.{Told, called-refused, called-done}
+use Rattle.pool.proofs.Inspecting.{Told, called-refused, called-done, kept-bytes}
 use Rattle.pool.proofs.Serves.{Shown, shown}
 
 -- ---- before and after the queue is served
@@ -293,6 +294,17 @@ module _ (l : List ℕ) (q : Queue) (seen : Surveyed) (t : Told target.Nothing l
         ∙ served-reply (stored l q) (erase (blocksOf l) l) (ticked .woken) (leave e-tmout (expired (entriesOf q))) (ticked .count) _ refl
         (ap (λ (x : Ticked). x .woken) e) (count-is ∙ sym (leave-length e-tmout (expired (entriesOf q))))
         ∙ called-done tick l q (t .state) refl
+
+    -- where no wait ends, the head is that of before, and nobody is served
+    pub tick-none : ticked .count ≡ 0 → Bytes l
+        → result (record { code = e-ok; offset = noOffset; reason = 0; place = noPlace; woken = ticked .woken; queue = record { attributes = q .attributes; entries = ticked .entries } }) l ≡ called tick l q
+    tick-none z b =
+        let K = rulesIn l q in
+        let stuck = serve-stuck K (blocks K) (blocksOf l) stay (stuck-remaining K (blocks K) (blocksOf l) (entriesOf q) (sym count-is ∙ z) (t .parts .head)) in
+        let u : used (ticked .entries) ≡ stay = ap used places-are ∙ placed-used (q .attributes) (length l) stay stays in
+        tick-done _ (rw (u, stuck) (λ i. result
+        (record { code = e-ok; offset = noOffset; reason = 0; place = noPlace; woken = ticked .woken; queue = record { attributes = q .attributes; entries = places-are i } })
+        (sym (kept-bytes l q b (t .parts)) i)))
 
 -- ---- inquire
 

@@ -64,6 +64,7 @@ pub record State (l : List ℕ) (q : Queue) : Type 0 where
   pub pool : soundPool l ≡ true
   pub queue : queued (rulesIn l q) (entriesOf q) ≡ true
   pub places : tidy (q .entries) ≡ true
+  pub head : stuck l q ≡ true
 
 pub open-state : (l : List ℕ) (q : Queue) → isSound rules (stored l q) ≡ true → State l q
 open-state l q h =
@@ -74,7 +75,7 @@ open-state l q h =
     let e = sym (state-parts l q) ∙ h in
     let bc = and-r v (b && c) (and-r a (v && (b && c)) e) in
     let o = open-sound (q .attributes) (length l) (q .entries) (and-l b c bc) in
-    record { pool = and-l a (v && (b && c)) e; queue = o .queue; places = o .places }
+    record { pool = and-l a (v && (b && c)) e; queue = o .queue; places = o .places; head = and-r b c bc }
 
 -- a queue that keeps what create refuses
 pub kept-unsound : (l : List ℕ) (q : Queue) → okAttributes (q .attributes) (length l) ≡ false → isSound rules (stored l q) ≡ false

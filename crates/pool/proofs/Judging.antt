@@ -1,5 +1,5 @@
 -- Requests: the tests, and what follows where none refuses. Assumes nothing.
-use Prim.Native.Nat.{ℕ, _+_}
+use Prim.Native.Nat.{ℕ, _+_, _≤_}
 use mathlib.Core.Path.{_≡_, refl, sym, ap, _∙_}
 use mathlib.Core.Bool.{Bool, true, false, not, cond, _&&_}
 use mathlib.Core.List.{List, []}
@@ -7,24 +7,25 @@ use mathlib.Core.Option.{Option, none, some}
 use native.Mathlib.Omega.{arith}
 use mir.Syntax.{w32}
 use mir.Val.{ofZ, toZ}
-use lib.ListN.{length, getD}
-use lib.Dec.{eqb}
+use lib.ListN.{length}
+use lib.Dec.{leb}
 use lib.IntN.{ℤ}
+use borrow.Author.Tests.{leb-true}
 use Rattle.model.specs.declared.Attributes.{Attributes}
 use Rattle.model.specs.declared.BlockOffset.{BlockOffset}
 use Rattle.model.specs.declared.Entry.{Entry}
 use Rattle.model.specs.declared.Queue.{Queue}
 use Rattle.model.specs.declared.Woken.{Woken}
 use Rattle.model.specs.declared.Answer.{Answer}
-use Rattle.model.specs.Limits.{most-tasks, e-ok, e-id, e-par, e-ctx, e-tmout}
+use Rattle.model.specs.Limits.{most-tasks, lowest-priority, e-ok, e-id, e-par, e-ctx, e-tmout}
 use Rattle.model.specs.Blocks.{Block, fits, firstFit, granted}
 use Rattle.model.specs.Bytes.{blocksOf}
 use Rattle.model.specs.Waiting.{waits}
-use Rattle.model.specs.Rules.{Rules, okTask, mostAsked, okSize, needOf, rules}
+use Rattle.model.specs.Rules.{Rules, okTask, mostAsked, okSize, okPriority, needOf, rankBy, rules}
 use Rattle.model.specs.Calls.{offsetOf, noPlace, Request, get, plain, deny, okLimit, isPoll, leftOf, entryOf, State, state, blocks, goes, tests, act}
-use Rattle.model.specs.Places.{noEntry, entriesOf, tidy, wokenOf}
+use Rattle.model.specs.Places.{entriesOf, tidy, wokenOf}
 use Rattle.model.specs.Pool.{Stored, stored, view, performBy, rulesOf, isSound, result, answered, called}
-use Rattle.model.proofs.Tests.{by, and-l, and-f-r, not-f}
+use Rattle.model.proofs.Tests.{by, and-l, and-r, and-f-r, not-f}
 use Rattle.model.proofs.Bytes.{Bytes}
 use Rattle.model.proofs.Soundness.{no-some, past}
 use Rattle.model.proofs.Rules.{rules-laws}
@@ -37,27 +38,27 @@ use Rattle.layout.proofs.Finding.{no-spot, found-run, no-run}
 use Rattle.queue.specs.declared.Slot.{Slot}
 use Rattle.queue.specs.declared.Slot.the-variants as slot
 use Rattle.queue.specs.Entries as Q
-use Rattle.queue.proofs.Entries.{head-blocks}
+use Rattle.queue.proofs.Entries.{head-decides}
 use Rattle.pool.specs.declared.request.Verdict.{Verdict}
 use Rattle.pool.specs.declared.request.Verdict.the-variants.{Refuse, Go}
-use Rattle.pool.specs.Steps.{rulesIn, request, entry, refusal, asked, judged, placed, runFor, held, admitted, Fair}
+use Rattle.pool.specs.Steps.{rulesIn, request, entry, refusal, asked, judged, placed, unblocked, runFor, held, admitted, Fair}
 use Rattle.pool.proofs.Inspecting.{State as Parts, open-state, called-refused, kept-bytes, kept-queue}
 
 -- ---- the tests but for the last
 
-module _ (a : Attributes) (n t s : ℕ) (l : ℤ) (q : List Entry) where
+module _ (a : Attributes) (n t s : ℕ) (l : ℤ) (k : ℕ) (q : List Entry) where
   abbrev verdictOf : Verdict
-  verdictOf = judged (asked (rules a n) (request t s l) q) l
+  verdictOf = judged (asked (rules a n) (request t s l k) q) l
 
   pub task-refused : okTask (rules a n) t ≡ false → Refuse e-id ≡ verdictOf
   task-refused h = rw h
 
   module _ (h : okTask (rules a n) t ≡ true) where
-    pub size-refused : okSize (mostAsked a n) s ≡ false → Refuse e-par ≡ verdictOf
+    pub size-refused : okSize (mostAsked a n) s && okPriority k ≡ false → Refuse e-par ≡ verdictOf
     unfolding rules
     size-refused b = rw (h, b)
 
-    module _ (b : okSize (mostAsked a n) s ≡ true) where
+    module _ (b : okSize (mostAsked a n) s && okPriority k ≡ true) where
       pub limit-refused : okLimit l ≡ false → Refuse e-par ≡ verdictOf
       unfolding rules
       limit-refused d = rw (h, b, d)
@@ -119,39 +120,39 @@ judged-go (some c) l p left e = absurd (let z : _≡_ {A = ℕ} 0 1 = cc in omeg
 judged-go none l p left e = record { passes = refl; poll = cc; time = cc }
 
 -- a poll never stands in the queue, so its time left does not matter
-poll-admitted : (s : Stored) (t n a b : ℕ) → admitted s (entry t n a) true ≡ admitted s (entry t n b) true
+poll-admitted : (s : Stored) (t n a b k : ℕ) → admitted s (entry t n a k) true ≡ admitted s (entry t n b k) true
 unfolding rules
-poll-admitted s t n a b = by (goes (rulesOf rules s) (blocks (rulesOf rules s)) (entry t n a) (view s)) (λ g. rw g) (λ g. rw g)
+poll-admitted s t n a b k = by (goes (rulesOf rules s) (blocks (rulesOf rules s)) (entry t n a k) (view s)) (λ g. rw g) (λ g. rw g)
 
-admitted-left : (s : Stored) (t n left : ℕ) (l : ℤ) → left ≡ cond (isPoll l) 0 (leftOf l) → admitted s (entry t n left) (isPoll l) ≡ admitted s (entry t n (leftOf l)) (isPoll l)
-admitted-left s t n left l e =
+admitted-left : (s : Stored) (t n left k : ℕ) (l : ℤ) → left ≡ cond (isPoll l) 0 (leftOf l) → admitted s (entry t n left k) (isPoll l) ≡ admitted s (entry t n (leftOf l) k) (isPoll l)
+admitted-left s t n left k l e =
     by (isPoll l)
-    (λ h. rw h (poll-admitted s t n left (leftOf l)))
+    (λ h. rw h (poll-admitted s t n left (leftOf l) k))
     (λ h. let time : left ≡ leftOf l = rw h at e in rw time)
 
-module _ (l : List ℕ) (q : Queue) (t n : ℕ) (limit : ℤ) where
+module _ (l : List ℕ) (q : Queue) (t n : ℕ) (limit : ℤ) (k : ℕ) where
   abbrev K : Rules
   K = rulesIn l q
 
   abbrev r : Request
-  r = request t n limit
+  r = request t n limit k
 
-  pub get-refused : (k : ℤ) → isSound rules (stored l q) ≡ true → judged (asked K r (entriesOf q)) limit ≡ Refuse k → result (refusal (plain (toZ w32 (ofZ w32 k))) q) l ≡ called (get r) l q
+  pub get-refused : (c : ℤ) → isSound rules (stored l q) ≡ true → judged (asked K r (entriesOf q)) limit ≡ Refuse c → result (refusal (plain (toZ w32 (ofZ w32 c))) q) l ≡ called (get r) l q
   unfolding view
-  get-refused k h e =
-      let s = judged-refuse (asked K r (entriesOf q)) limit k e in
-      rw (code-kept K r (entriesOf q) k s) (called-refused (get r) l q (plain k) h (asked-some K r (view (stored l q)) k s))
+  get-refused c h e =
+      let s = judged-refuse (asked K r (entriesOf q)) limit c e in
+      rw (code-kept K r (entriesOf q) c s) (called-refused (get r) l q (plain c) h (asked-some K r (view (stored l q)) c s))
 
   pub get-admitted : (p : Bool) (left : ℕ) → isSound rules (stored l q) ≡ true → judged (asked K r (entriesOf q)) limit ≡ Go p left
-      → answered (admitted (stored l q) (entry t n left) p) ≡ called (get r) l q
+      → answered (admitted (stored l q) (entry t n left k) p) ≡ called (get r) l q
   unfolding performBy act view
   get-admitted p left h e =
       let g = judged-go (asked K r (entriesOf q)) limit p left e in
       let poll = g .poll in
-      rw (poll, admitted-left (stored l q) t n left limit (g .time), h, asked-none K r (view (stored l q)) (g .passes))
+      rw (poll, admitted-left (stored l q) t n left k limit (g .time), h, asked-none K r (view (stored l q)) (g .passes))
 
   pub get-fair : (p : Bool) (left : ℕ) (f : Found) → isSound rules (stored l q) ≡ true → judged (asked K r (entriesOf q)) limit ≡ Go p left
-      → f ≡ seek (sought (target.Run (needOf (q .attributes) n))) 0 0 (blocksOf l) → Fair l q (entry t n left) f
+      → f ≡ seek (sought (target.Run (needOf (q .attributes) n))) 0 0 (blocksOf l) → Fair l q (entry t n left k) f
   unfolding rules
   get-fair p left f h e run =
       let g = judged-go (asked K r (entriesOf q)) limit p left e .passes in
@@ -178,21 +179,38 @@ module _ (l : List ℕ) (q : Queue) (e : Entry) (f : Found) (fair : Fair l q e f
   parts : Parts l q
   parts = open-state l q (fair .state)
 
-  pub fair-held : tidy (q .entries) ≡ true
-  fair-held = parts .places
+  -- its task and its priority are small numbers
+  pub fair-small : (e .task ≤ most-tasks) × (e .priority ≤ lowest-priority)
+  unfolding rules
+  fair-small =
+      let k = and-r (okSize (mostAsked (q .attributes) (length l)) (e .size)) (okPriority (e .priority)) (fair .size) in (
+        leb-true (e .task) most-tasks (and-r (leb 1 (e .task)) (leb (e .task) most-tasks) (fair .task)),
+        leb-true (e .priority) lowest-priority (and-r (leb 1 (e .priority)) (leb (e .priority) lowest-priority) k),
+      )
 
-  -- nobody waits, and the run found
-  goes-is : goes S (blocks S) e (view (stored l q)) ≡ eqb (getD (q .entries) 0 noEntry .task) 0 && fits need (blocksOf l)
+  pub fair-held : (tidy (q .entries) ≡ true) × (e .priority ≤ lowest-priority)
+  fair-held = (parts .places, fair-small .1)
+
+  abbrev order : ℕ
+  order = q .attributes .order
+
+  abbrev before-head : Bool
+  before-head = unblocked order (q .entries) e
+
+  -- the head, if any, comes after it, and the run found
+  goes-is : goes S (blocks S) e (view (stored l q)) ≡ before-head && fits need (blocksOf l)
   unfolding view rules
-  goes-is = by (eqb (getD (q .entries) 0 noEntry .task) 0) (λ z. rw (head-blocks (q .entries) 0, z)) (λ z. rw (head-blocks (q .entries) 0, z))
+  goes-is =
+      let h = head-decides (q .entries) (q .attributes) (length l) (rankBy order e) (parts .queue) in
+      by before-head (λ z. rw (h, z)) (λ z. rw (h, z))
 
-  none-goes : runFor (q .entries) f ≡ found.Nothing → goes S (blocks S) e (view (stored l q)) ≡ false
+  none-goes : runFor order (q .entries) e f ≡ found.Nothing → goes S (blocks S) e (view (stored l q)) ≡ false
   none-goes n =
-      goes-is ∙ by (eqb (getD (q .entries) 0 noEntry .task) 0)
+      goes-is ∙ by before-head
       (λ z. let g : f ≡ found.Nothing = rw z at n in rw (z, no-run need (blocksOf l) (sym (fair .run) ∙ g)))
       (λ z. rw z)
 
-  pub admit-held : (a : Answer) (p : Bool) → length (q .entries) ≡ most-tasks → Bytes l → runFor (q .entries) f ≡ found.Nothing → a ≡ held q e p → result a l ≡ answered (admitted (stored l q) e p)
+  pub admit-held : (a : Answer) (p : Bool) → length (q .entries) ≡ most-tasks → Bytes l → runFor order (q .entries) e f ≡ found.Nothing → a ≡ held q e p → result a l ≡ answered (admitted (stored l q) e p)
   unfolding view rules
   admit-held a p n w o ea =
       let g = none-goes o in
@@ -200,9 +218,9 @@ module _ (l : List ℕ) (q : Queue) (e : Entry) (f : Found) (fair : Fair l q e f
       (λ h. rw (ea, h, g))
       (λ h. rw (ea, h, g) (ap (λ (y : List ℕ). result (held q e false) y) (sym (kept-bytes l q w parts))))
 
-  module _ (s : Spot) (o : runFor (q .entries) f ≡ found.At s) where
-    ran : (eqb (getD (q .entries) 0 noEntry .task) 0 ≡ true) × (f ≡ found.At s)
-    ran = by (eqb (getD (q .entries) 0 noEntry .task) 0) (λ z. (z, rw z at o)) (λ z. no-spot (rw z at o))
+  module _ (s : Spot) (o : runFor order (q .entries) e f ≡ found.At s) where
+    ran : (before-head ≡ true) × (f ≡ found.At s)
+    ran = by before-head (λ z. (z, rw z at o)) (λ z. no-spot (rw z at o))
 
     fit : (fits need (blocksOf l) ≡ true) × (s .place .0 ≡ firstFit need (blocksOf l))
     fit = found-run need (blocksOf l) s (sym (fair .run) ∙ ran .1)

@@ -1,7 +1,7 @@
--- Demands 1 to 3, timeouts and the wait bound about what the contracts of the calls cite: `created`, `called` and `inquired`. Assumes nothing.
+-- Demands 1 to 3, timeouts, the order and the wait bound about what the contracts of the calls cite: `created`, `called` and `inquired`. Assumes nothing.
 use Prim.Native.Nat.{ℕ, _+_, _-_, _≤_}
 use mathlib.Core.Path.{_≡_, refl, sym, ap, _∙_}
-use mathlib.Core.Logic.{_↔_, _⊎_}
+use mathlib.Core.Logic.{_↔_, _⊎_, ⊎-elim}
 use mathlib.Core.Bool.{true, false, cond, _&&_}
 use mathlib.Core.List.{List, [], _∷_}
 use mathlib.Core.Option.{Option, none, some}
@@ -12,25 +12,26 @@ use lib.IntN.{pos}
 use borrow.Author.Tests.{leb-true}
 use Rattle.model.specs.declared.Attributes.{Attributes}
 use Rattle.model.specs.declared.BlockOffset.{BlockOffset}
+use Rattle.model.specs.declared.Entry.{Entry}
 use Rattle.model.specs.declared.Queue.{Queue}
 use Rattle.model.specs.declared.Answer.{Answer}
 use Rattle.model.specs.Limits.{most-tasks, minus, e-ok, waiting, e-sys, e-par, e-id, e-rlwai, e-tmout, already-free}
 use Rattle.model.specs.Blocks.{block, liveCount, sumFree, greatestFree}
 use Rattle.model.specs.Bytes.{blocksOf, render}
-use Rattle.model.specs.Waiting.{waits, placeIn, headTask}
+use Rattle.model.specs.Waiting.{waits, entryIn, placeIn, headTask}
 use Rattle.model.specs.Rules.{Rules, okTask, okLong, okAttributes, rules}
 use Rattle.model.specs.Calls.{noOffset, noPlace, Request, Call, get, release, cancel, tick, inquire, Reply, Refusal, plain, leaves, blocks, sound, isLive, tests, act, step}
 use Rattle.model.specs.Refusals.{Refused, get-id}
-use Rattle.model.specs.Runs.{after, run, refuses, wakeCode, endCode, Spared, ticks, releases, gets, refusals, winners, Others}
+use Rattle.model.specs.Runs.{after, run, refuses, wakings, servedBefore, wakeCode, endCode, Spared, ticks, releases, NoneBetter, gets, refusals, winners, Others, OfPriority}
 use Rattle.model.specs.Places.{tidy, entriesOf, queueOf, wokenOf}
-use Rattle.model.specs.Pool.{Stored, stored, Typed, view, waiters, settled, defaults, soundBy, isSound, perform, create, Result, result, answered, created, called, inquired, totals}
-use Rattle.model.specs.Demands.{NoTrace, undo, Undone, Timeout, EndsWithin, OneHolder}
+use Rattle.model.specs.Pool.{Stored, stored, Typed, Fifo, view, waiters, settled, defaults, soundBy, isSound, perform, create, Result, result, answered, created, called, inquired, totals}
+use Rattle.model.specs.Demands.{NoTrace, undo, Undone, Timeout, StaysBehind, EndsWithin, OneHolder}
 use Rattle.model.proofs.Tests.{by, and-l}
 use Rattle.model.proofs.Waiting.{waits-least, head-place}
 use Rattle.model.proofs.Pool.{by-unsound, by-done}
-use Rattle.model.proofs.Fates.{wake-pad}
-use Rattle.model.proofs.Theorems.{pool-attributes-kept, pool-call-sound, pool-run-sound, pool-refusal-keeps, pool-refusal-when, pool-release-refused-when, pool-done-no-reason, pool-release-refused-live, pool-release-place, pool-call-seen, pool-cancel-no-trace, pool-release-undoes, pool-timeout, pool-unlimited, pool-wait-bound}
-pub use Rattle.model.proofs.Theorems.{kind-number, top-kind, pool-rounds, pool-sizes-asked, pool-blocks-of-render, pool-render-of-blocks, pool-entries-of-queue, pool-queue-of-entries, pool-woken-fit, pool-bound-reached}
+use Rattle.model.proofs.Fates.{wake-pad, entry-waits}
+use Rattle.model.proofs.Theorems.{pool-attributes-kept, pool-call-sound, pool-run-sound, pool-refusal-keeps, pool-refusal-when, pool-release-refused-when, pool-done-no-reason, pool-release-refused-live, pool-release-place, pool-call-seen, fifo-cancel-no-trace, pool-cancel-no-trace, pool-release-undoes, pool-timeout, pool-unlimited, fifo-never-passed, pool-never-passed, fifo-wait-bound, pool-wait-bound}
+pub use Rattle.model.proofs.Theorems.{kind-number, top-kind, pool-rounds, pool-sizes-asked, pool-priorities-asked, pool-best-first, pool-blocks-of-render, pool-render-of-blocks, pool-entries-of-queue, pool-queue-of-entries, pool-woken-fit, pool-bound-reached}
 use Rattle.pool.specs.Steps.{rulesIn, refusal, refusedIn}
 use Rattle.pool.proofs.Inspecting.{State as Parts, open-state, kept-unsound, called-refused, called-done, kept-bytes, kept-queue}
 
@@ -129,8 +130,8 @@ module _ (l : List ℕ) (q : Queue) where
 -- ---- demand 3
 
 module _ (l : List ℕ) (q : Queue) (h : isSound rules (stored l q) ≡ true) (t : Typed (stored l q)) where
-  -- first half: the get f is told to wait, the gets rs follow, the wait is cancelled
-  module _ (f : Request) (rs : List Request) (z : called (get f) l q .answer .code ≡ waiting) (others : Others (f .task) rs) where
+  -- first half: the get f is told to wait, the gets rs follow, by priority with that of f, and the wait is cancelled
+  module _ (f : Request) (rs : List Request) (z : called (get f) l q .answer .code ≡ waiting) (others : Others (f .task) rs) (equal : Fifo (stored l q) ⊎ OfPriority (f .priority) rs) where
     -- the state after the get f and the gets rs, and after the gets rs alone
     abbrev waited : Stored
     waited = after (perform rules) (stored (called (get f) l q .bytes) (called (get f) l q .answer .queue)) (gets rs)
@@ -139,7 +140,7 @@ module _ (l : List ℕ) (q : Queue) (h : isSound rules (stored l q) ≡ true) (t
     alone = after (perform rules) (stored l q) (gets rs)
 
     no-trace : NoTrace (perform rules) (stored l q) f rs
-    no-trace = pool-cancel-no-trace (stored l q) f rs h t z others
+    no-trace = ⊎-elim (λ o. fifo-cancel-no-trace (stored l q) f rs o h t z others) (λ k. pool-cancel-no-trace (stored l q) f rs h t z others k) equal
 
     -- bytes and queue are those that the gets alone leave; the task is woken with -49, then those whom the gets alone grant
     pub cancel-leaves-no-trace : called (cancel (f .task)) (waited .bytes) (waited .queue)
@@ -214,21 +215,45 @@ module _ (l : List ℕ) (q : Queue) (h : isSound rules (stored l q) ≡ true) (f
       pub next-tick-ends : ticks cs ≡ n → waits (f .task) (entriesOf (called tick (later .bytes) (later .queue) .answer .queue)) ≡ false
       next-tick-ends k = timed .gone k
 
--- ---- the wait bound: the task t waits, and a run follows
+-- ---- the order: the get f is told to wait, a run follows that does not wake its task, and then the request r is made, by priority one of no better priority
 
-module _ (l : List ℕ) (q : Queue) (h : isSound rules (stored l q) ≡ true) (t : ℕ) (w : waits t (entriesOf q) ≡ true) (cs : List Call) where
+module _ (l : List ℕ) (q : Queue) (h : isSound rules (stored l q) ≡ true) (f : Request) (cs : List Call) (z : called (get f) l q .answer .code ≡ waiting)
+    (still : endCode (f .task) (run (perform rules) (stored (called (get f) l q .bytes) (called (get f) l q .answer .queue)) cs) ≡ none)
+    (r : Request) (equal : Fifo (stored l q) ⊎ (f .priority ≤ r .priority)) (ds : List Call) where
+  abbrev at : Stored
+  at = after (perform rules) (stored (called (get f) l q .bytes) (called (get f) l q .answer .queue)) cs
+
+  behind : StaysBehind (perform rules) at (f .task) r ds
+  behind = ⊎-elim (λ o. fifo-never-passed (stored l q) f cs r ds o h z still) (λ k. pool-never-passed (stored l q) f cs r ds h z still k) equal
+
+  -- it is not granted
+  pub not-granted : called (get r) (at .bytes) (at .queue) .answer .code ≡ e-ok → ⊥
+  not-granted = behind .not-at-once
+
+  -- if it is told to wait, then in whatever calls ds follow, its wait does not end with a block before that of f's task has ended
+  pub not-served-before : called (get r) (at .bytes) (at .queue) .answer .code ≡ waiting
+      → servedBefore (r .task) (f .task) (wakings (run (perform rules) (stored (called (get r) (at .bytes) (at .queue) .bytes) (called (get r) (at .bytes) (at .queue) .answer .queue)) ds)) ≡ false
+  not-served-before = behind .not-before
+
+-- ---- the wait bound: the task t waits with the entry e, and a run follows, by priority one in which nobody better is granted or told to wait meanwhile
+
+module _ (l : List ℕ) (q : Queue) (h : isSound rules (stored l q) ≡ true) (t : ℕ) (e : Entry) (here : entryIn t (entriesOf q) ≡ some e) (cs : List Call)
+    (none-better : Fifo (stored l q) ⊎ NoneBetter t (e .priority) (run (perform rules) (stored l q) cs)) where
   -- the successful releases of the run
   abbrev made : ℕ
   made = releases (run (perform rules) (stored l q) cs)
 
+  w : waits t (entriesOf q) ≡ true
+  w = entry-waits t e (entriesOf q) here
+
   -- with L live blocks and the task at place k of the queue, its wait ends at the latest in the (L + k - 1)-th
   pub wait-ends : liveCount (blocksOf l) + placeIn t (entriesOf q) - 1 ≤ made → EndsWithin (perform rules) (stored l q) t (liveCount (blocksOf l) + placeIn t (entriesOf q) - 1) cs
-  wait-ends n = pool-wait-bound (stored l q) t cs h w n
+  wait-ends n = ⊎-elim (λ o. fifo-wait-bound (stored l q) t cs o h w n) (λ b. pool-wait-bound (stored l q) t e cs h here b n) none-better
 
   -- that of the head in the L-th
   pub head-ends : headTask (entriesOf q) ≡ t → liveCount (blocksOf l) ≤ made → EndsWithin (perform rules) (stored l q) t (liveCount (blocksOf l)) cs
-  head-ends e =
-      let bound : liveCount (blocksOf l) + placeIn t (entriesOf q) - 1 ≡ liveCount (blocksOf l) = omega (arith, head-place t (entriesOf q) e w) in
+  head-ends i =
+      let bound : liveCount (blocksOf l) + placeIn t (entriesOf q) - 1 ≡ liveCount (blocksOf l) = omega (arith, head-place t (entriesOf q) i w) in
       rw bound at wait-ends
 
   module _ (n : ℕ) (o : EndsWithin (perform rules) (stored l q) t n cs) where

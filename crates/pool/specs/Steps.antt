@@ -1,12 +1,12 @@
 -- What the steps of the calls answer: the contracts of the functions below the calls.
 use Prim.Native.Nat.{ℕ, _+_, _≤_, _<_}
 use mathlib.Core.Path.{_≡_}
-use mathlib.Core.Bool.{Bool, true, false, not, cond, _&&_}
+use mathlib.Core.Bool.{Bool, true, false, not, cond, _&&_, _||_}
 use mathlib.Core.List.{List, []}
 use mathlib.Core.Option.{Option, none, some}
 use lib.ListN.{length, getD}
 use lib.Seq.{sets}
-use lib.Dec.{eqb}
+use lib.Dec.{ltb, eqb}
 use lib.IntN.{ℤ}
 use Rattle.model.specs.declared.Attributes.{Attributes}
 use Rattle.model.specs.declared.BlockOffset.{BlockOffset}
@@ -18,7 +18,7 @@ use Rattle.model.specs.Limits.{most-tasks, e-ok, waiting, e-id, e-par, e-ctx, e
 use Rattle.model.specs.Blocks.{Block, fits}
 use Rattle.model.specs.Bytes.{blocksOf, render}
 use Rattle.model.specs.Waiting.{waits, insert}
-use Rattle.model.specs.Rules.{Rules, okTask, queued, needOf, rules}
+use Rattle.model.specs.Rules.{Rules, okTask, queued, needOf, rankBy, rules}
 use Rattle.model.specs.Calls.{noOffset, noPlace, Request, Reply, Refusal, plain, Served, decide, deny, okLimit, isPoll, leftOf, entryOf, blocks, goes, misplaced, grants, joins}
 use Rattle.model.specs.Runs.{refusing}
 use Rattle.model.specs.Places.{noEntry, used, tidy, entriesOf, queueOf, wokenOf}
@@ -35,11 +35,11 @@ use Rattle.pool.specs.declared.state.Reason.{Reason}
 use Rattle.pool.specs.declared.request.Verdict.{Verdict}
 use Rattle.pool.specs.declared.request.Verdict.the-variants.{Refuse, Go}
 
-abbrev pub request : ℕ → ℕ → ℤ → Request
-request t n l = record { task = t; size = n; limit = l }
+abbrev pub request : ℕ → ℕ → ℤ → ℕ → Request
+request t n l k = record { task = t; size = n; limit = l; priority = k }
 
-abbrev pub entry : ℕ → ℕ → ℕ → Entry
-entry t n l = record { task = t; size = n; left = l }
+abbrev pub entry : ℕ → ℕ → ℕ → ℕ → Entry
+entry t n l k = record { task = t; size = n; left = l; priority = k }
 
 -- ---- the state
 
@@ -85,15 +85,19 @@ abbrev pub placed : Slot → Bool → ℕ → Verdict
 placed (slot.At i) poll left = Refuse e-ctx
 placed slot.Nothing poll left = Go poll left
 
--- the run that a request may have: none while anybody waits
-abbrev pub runFor : List Entry → Found → Found
-runFor es f = cond (eqb (getD es 0 noEntry .task) 0) f found.Nothing
+-- a request goes before the head, or there is none
+abbrev pub unblocked : ℕ → List Entry → Entry → Bool
+unblocked order es e = eqb (getD es 0 noEntry .task) 0 || ltb (rankBy order e) (rankBy order (getD es 0 noEntry))
+
+-- the run that a request may have: none where it does not go before the head
+abbrev pub runFor : ℕ → List Entry → Entry → Found → Found
+runFor order es e f = cond (unblocked order es e) f found.Nothing
 
 -- the answer to a request that is not granted at once
 abbrev pub held : Queue → Entry → Bool → Answer
 held q e poll =
     cond poll (refusal (plain e-tmout) q)
-    (record { code = waiting; offset = noOffset; reason = 0; place = noPlace; woken = wokenOf []; queue = queueOf (q .attributes) (insert (λ x. 0) e (entriesOf q)) })
+    (record { code = waiting; offset = noOffset; reason = 0; place = noPlace; woken = wokenOf []; queue = queueOf (q .attributes) (insert (rankBy (q .attributes .order)) e (entriesOf q)) })
 
 -- the reply to a request that no test but the last refuses
 abbrev pub admitted : Stored → Entry → Bool → Reply Stored

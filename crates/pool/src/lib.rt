@@ -13,6 +13,7 @@ use model::E_OBJ;
 use model::E_PAR;
 use model::E_RLWAI;
 use model::E_SYS;
+use model::Entry;
 use model::HeaderPlace;
 use model::OUT_OF_RANGE;
 use model::Queue;
@@ -41,9 +42,10 @@ pub fn create(pool: &mut [u8], attributes: Attributes) -> Answer
     state::refuse(0, state::empty(attributes))
 }
 
-// A block for a task: granted where nobody waits and a run fits, else the task waits, through `limit` ticks, forever (-1) or not at all (0).
-pub fn get(pool: &mut [u8], queue: Queue, task: u32, size: u32, limit: i32) -> Answer
-    ensures { λ r. ⌜ result r (now (pool .exit)) ≡ called (calls.get (request task size limit)) (now (pool .entry)) queue ⌝ }
+// A block for a task: granted where a run fits and nobody waits, by priority nobody of better or equal priority; else the task waits, through `limit`
+// ticks, forever (-1) or not at all (0). Priorities are 1, the best, to LOWEST_PRIORITY.
+pub fn get(pool: &mut [u8], queue: Queue, task: u32, size: u32, limit: i32, priority: u32) -> Answer
+    ensures { λ r. ⌜ result r (now (pool .exit)) ≡ called (calls.get (request task size limit priority)) (now (pool .entry)) queue ⌝ }
 {
     let need = sizes::need(queue.attributes, size);
     let seen = state::inspect(pool, queue, Target::Run(need));
@@ -51,19 +53,27 @@ pub fn get(pool: &mut [u8], queue: Queue, task: u32, size: u32, limit: i32) -> A
         return state::refuse(E_SYS, queue);
     }
     let n = pool.len();
-    let verdict = request::judge(queue, n, task, size, limit);
+    let verdict = request::judge(queue, n, task, size, limit, priority);
     let found = seen.found;
     match verdict {
         Verdict::Refuse(code) => state::refuse(code, queue),
-        Verdict::Go(poll, left) => request::admit(pool, queue, task, size, poll, left, found),
+        Verdict::Go(poll, left) => {
+            let e = Entry {
+                task: task as u16,
+                priority: priority as u16,
+                size: size,
+                left: left,
+            };
+            request::admit(pool, queue, e, poll, found)
+        }
     }
 }
 
 // A block for a task, or a refusal at once.
-pub fn poll(pool: &mut [u8], queue: Queue, task: u32, size: u32) -> Answer
-    ensures { λ r. ⌜ result r (now (pool .exit)) ≡ called (calls.poll task size) (now (pool .entry)) queue ⌝ }
+pub fn poll(pool: &mut [u8], queue: Queue, task: u32, size: u32, priority: u32) -> Answer
+    ensures { λ r. ⌜ result r (now (pool .exit)) ≡ called (calls.poll task size priority) (now (pool .entry)) queue ⌝ }
 {
-    get(pool, queue, task, size, 0)
+    get(pool, queue, task, size, 0, priority)
 }
 
 // The block at an offset becomes free, and the queue is served. A refusal says why the offset is not that of a live block.
@@ -120,7 +130,7 @@ pub fn cancel(pool: &mut [u8], queue: Queue, task: u32) -> Answer
     )
 }
 
-// Every limited wait loses a tick, those that reach none leave, and the queue is served.
+// Every limited wait loses a tick, those that reach none leave, and the queue is served; where nobody leaves, its head fits no more than before.
 pub fn tick(pool: &mut [u8], queue: Queue) -> Answer
     ensures { λ r. ⌜ result r (now (pool .exit)) ≡ called calls.tick (now (pool .entry)) queue ⌝ }
 {
@@ -132,6 +142,20 @@ pub fn tick(pool: &mut [u8], queue: Queue) -> Answer
     let ticked = queue::tick(entries);
     let stay = ticked.entries;
     let woken = ticked.woken;
+    if ticked.count == 0 {
+        let attributes = queue.attributes;
+        return Answer {
+            code: 0,
+            offset: BlockOffset(0),
+            reason: 0,
+            place: HeaderPlace(0),
+            woken: woken,
+            queue: Queue {
+                attributes: attributes,
+                entries: stay,
+            },
+        };
+    }
     serving::serve(
         pool,
         queue.attributes,
@@ -161,6 +185,6 @@ pub fn inquire(pool: &[u8], queue: Queue) -> Totals
         code: 0,
         sum: seen.sum,
         greatest: seen.greatest,
-        head: head.task,
+        head: head.task as u32,
     }
 }

@@ -50,7 +50,7 @@ pub fn serve(
         let at = spot.place;
         change::grant_at(pool, at, need, e.task as usize);
         noted[before + i] = Woken {
-            task: e.task,
+            task: e.task as u32,
             code: 0,
             offset: header::offset_of(at),
         };

@@ -18,7 +18,7 @@ ghost use mathlib.Core.Path.{_≡_};
 ghost use mathlib.Core.Bool.{true};
 ghost use mathlib.Core.List.{[]};
 ghost use Rattle.model.specs.Bytes.{blocksOf};
-ghost use Rattle.model.specs.Rules.{rules};
+ghost use Rattle.model.specs.Rules.{okAttributes, rules};
 ghost use Rattle.model.specs.Calls.{plain};
 ghost use Rattle.model.specs.Places.{queueOf};
 ghost use Rattle.layout.specs.declared.Target.the-variants as target;
@@ -28,6 +28,16 @@ ghost use Rattle.pool.specs.Steps.{inspected, refusal, misplacedIn, reas
 
 // Why a release is refused, and the place of a header; 0 and 0 if it is not.
 pub struct Reason(pub u32, pub HeaderPlace);
+
+// Whether create takes these attributes for a pool of `n` bytes.
+fn are_valid(attributes: Attributes, n: usize) -> bool
+    ensures { λ r. ⌜ r ≡ okAttributes attributes n ⌝ }
+{
+    if !queue::is_order(attributes.order) {
+        return false;
+    }
+    sizes::is_valid(attributes, n)
+}
 
 // Whether create takes a pool of `n` bytes with these attributes.
 pub fn is_valid(attributes: Attributes, n: usize) -> bool
@@ -42,7 +52,7 @@ pub fn is_valid(attributes: Attributes, n: usize) -> bool
     if LONGEST_POOL < n {
         return false;
     }
-    sizes::is_valid(attributes, n)
+    are_valid(attributes, n)
 }
 
 // A queue without entries.
@@ -109,7 +119,7 @@ pub fn inspect(pool: &[u8], queue: Queue, target: Target) -> Surveyed
     }
     let n = pool.len();
     let attributes = queue.attributes;
-    if !sizes::is_valid(attributes, n) {
+    if !are_valid(attributes, n) {
         return walk::unsound();
     }
     let entries = queue.entries;

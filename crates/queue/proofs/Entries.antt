@@ -5,33 +5,53 @@ use mathlib.Core.Bool.{Bool, true, false, not, cond, _&&_, _||_}
 use mathlib.Core.List.{List, [], _∷_, _++_}
 use native.Mathlib.Omega.{arith}
 use native.Mathlib.Nat.{add-zero, zero-add}
-use lib.Dec.{leb, eqb}
+use lib.Dec.{leb, ltb, eqb}
 use lib.ListN.{length, drop, getD, set, replicate}
 use lib.Seq.{getD-set-same, getD-set-other}
-use borrow.Author.Tests.{leb-true, eqb-true, eqb-false, le-leb, eq-eqb, ne-eqb}
+use borrow.Author.Tests.{ltb-true, ltb-false, leb-true, eqb-true, eqb-false, le-leb, lt-leb, eq-eqb, ne-eqb}
 use Rattle.model.specs.declared.Attributes.{Attributes}
 use Rattle.model.specs.declared.Entry.{Entry}
 use Rattle.model.specs.Limits.{most-tasks}
-use Rattle.model.specs.Waiting.{waits, remove, headTask, insert, blocked, leads, okLeft}
-use Rattle.model.specs.Rules.{okTask, mostAsked, okSize, okEntry, queued, rules}
+use Rattle.model.specs.Waiting.{waits, remove, headTask, blocked, leads, okLeft}
+use Rattle.model.specs.Rules.{okTask, okEntry, queued, rankBy, rules}
 use Rattle.model.specs.Places.{noEntry, used, allUnused, tidy}
-use Rattle.model.proofs.Tests.{by, clash, and-l, and-r, and-f-r, and-true, and-assoc, and-swap}
+use Rattle.model.proofs.Tests.{by, clash, and-l, and-r, and-f-r, and-true, and-assoc, and-swap, or-f-l, or-f-r}
+use Rattle.model.proofs.Waiting.{head-blocks}
 use Rattle.queue.specs.declared.Slot.{Slot}
 use Rattle.queue.specs.declared.Slot.the-variants.{At, Nothing}
-use Rattle.queue.specs.Entries.{soundQueue, place, found, rank, without}
+use Rattle.queue.specs.Entries.{soundQueue, place, found, without}
 use Rattle.queue.proofs.Places.{used-stop, used-go, tidy-stop, tidy-go, drop-end}
 
 -- ---- a sound queue
 
-leads-waits : (x : Entry) (q : List Entry) → leads rank x q ≡ not (waits (x .task) q)
-unfolding leads waits
-leads-waits x [] = refl
-leads-waits x (y ∷ q) = by (eqb (y .task) (x .task)) (λ h. rw h) (λ h. rw h (leads-waits x q))
+-- none of the entries is of a lower rank than r
+unfoldable pub above : (order r : ℕ) → List Entry → Bool
+above order r [] = true
+above order r (e ∷ q) = leb r (rankBy order e) && above order r q
+
+above-zero : (order : ℕ) (q : List Entry) → above order 0 q ≡ true
+unfolding above
+above-zero order [] = refl
+above-zero order (e ∷ q) = rw (le-leb 0 (rankBy order e) (omega arith)) (above-zero order q)
+
+above-less : (order k r : ℕ) (q : List Entry) → k ≤ r → above order r q ≡ true → above order k q ≡ true
+unfolding above
+above-less order k r [] h a = refl
+above-less order k r (e ∷ q) h a =
+    let m = leb-true r (rankBy order e) (and-l (leb r (rankBy order e)) (above order r q) a) in
+    rw (le-leb k (rankBy order e) (omega (arith, h, m))) (above-less order k r q h (and-r (leb r (rankBy order e)) (above order r q) a))
+
+leads-split : (order : ℕ) (x : Entry) (q : List Entry) → leads (rankBy order) x q ≡ not (waits (x .task) q) && above order (rankBy order x) q
+unfolding leads waits above
+leads-split order x [] = refl
+leads-split order x (y ∷ q) =
+    let b = leb (rankBy order x) (rankBy order y) in
+    by (eqb (y .task) (x .task)) (λ h. rw h) (λ h. rw h (ap (λ (c : Bool). b && c) (leads-split order x q) ∙ and-swap b (not (waits (x .task) q)) (above order (rankBy order x) q)))
 
 -- the number of a task that may stand in the queue
 pub entry-number : (a : Attributes) (n : ℕ) (e : Entry) → okEntry (rules a n) e ≡ true → e .task ≤ most-tasks
 unfolding rules
-entry-number a n e h = leb-true (e .task) most-tasks (and-r (leb 1 (e .task)) (leb (e .task) most-tasks) (and-l (okTask (rules a n) (e .task)) (okSize (mostAsked a n) (e .size) && okLeft (e .left)) h))
+entry-number a n e h = leb-true (e .task) most-tasks (and-r (leb 1 (e .task)) (leb (e .task) most-tasks) (and-l (okTask (rules a n) (e .task)) (rules a n .allowed e && okLeft (e .left)) h))
 
 -- none of the entries is of a task that is marked
 unfoldable pub unmarked : List Bool → List Entry → Bool
@@ -58,54 +78,80 @@ unmarked-set seen t h (e ∷ q) =
     (λ s. rw (s, getD-set-other seen t (e .task) true false (eqb-false (e .task) t s), unmarked-set seen t h q)
     (and-swap (not (getD seen (e .task) false)) (not (waits t q)) (unmarked seen q)))
 
--- what is still to be tested of the places, given the tasks marked and whether the entries have ended
-abbrev pub testFrom : Attributes → ℕ → List Bool → Bool → List Entry → Bool
-testFrom a n seen true l = allUnused l
-testFrom a n seen false l = soundQueue a n l && unmarked seen (used l)
+-- what is still to be tested of the places, given the tasks marked, the rank of the last entry, and whether the entries have ended
+abbrev pub testFrom : Attributes → ℕ → List Bool → ℕ → Bool → List Entry → Bool
+testFrom a n seen last true l = allUnused l
+testFrom a n seen last false l = soundQueue a n l && (unmarked seen (used l) && above (a .order) last (used l))
 
-pub test-starts : (a : Attributes) (n m : ℕ) (l : List Entry) → soundQueue a n l ≡ testFrom a n (replicate m false) false l
-test-starts a n m l = rw (unmarked-none m (used l)) (sym (and-true (soundQueue a n l)))
+pub test-starts : (a : Attributes) (n m : ℕ) (l : List Entry) → soundQueue a n l ≡ testFrom a n (replicate m false) 0 false l
+test-starts a n m l = rw (unmarked-none m (used l), above-zero (a .order) (used l)) (sym (and-true (soundQueue a n l)))
+
+regroup : (free rises sound unseen above : Bool) → (rises ≡ true → above ≡ true) → ((free && rises) && sound) && (unseen && above) ≡ sound && ((free && unseen) && rises)
+regroup false rises sound unseen above f = sym (and-f-r sound false refl)
+regroup true false sound unseen above f = sym (and-f-r sound (unseen && false) (and-f-r unseen false refl))
+regroup true true sound unseen above f = ap (λ (b : Bool). sound && (unseen && b)) (f refl)
 
 -- the test at one place more
-module _ (a : Attributes) (n : ℕ) (l : List Entry) (i : ℕ) (seen : List Bool) where
+module _ (a : Attributes) (n : ℕ) (l : List Entry) (i : ℕ) (seen : List Bool) (last : ℕ) where
   abbrev x : Entry
   x = getD l i noEntry
 
   abbrev r : List Entry
   r = drop (i + 1) l
 
-  pub test-ended : (ended : Bool) → ended || eqb (x .task) 0 ≡ true → testFrom a n seen ended (drop i l) ≡ allUnused (drop i l)
-  unfolding queued unmarked
+  abbrev order : ℕ
+  order = a .order
+
+  pub test-ended : (ended : Bool) → ended || eqb (x .task) 0 ≡ true → testFrom a n seen last ended (drop i l) ≡ allUnused (drop i l)
+  unfolding queued unmarked above
   test-ended true h = refl
   test-ended false h = let z = eqb-true (x .task) 0 h in rw (used-stop l i z, tidy-stop l i z) (and-true (allUnused (drop i l)))
 
-  sound-split : (x .task ≡ 0 → ⊥) → soundQueue a n (drop i l) ≡ okEntry (rules a n) x && (not (waits (x .task) (used r)) && soundQueue a n r)
+  -- who stands behind x: nobody of its task, and nobody of a lower rank
+  abbrev free : Bool
+  free = not (waits (x .task) (used r))
+
+  abbrev rises : Bool
+  rises = above order (rankBy order x) (used r)
+
+  sound-split : (x .task ≡ 0 → ⊥) → soundQueue a n (drop i l) ≡ okEntry (rules a n) x && ((free && rises) && soundQueue a n r)
   unfolding queued rules
   sound-split h =
-      let free = not (waits (x .task) (used r)) in
       let q = queued (rules a n) (used r) in
-      rw (used-go l i h, tidy-go l i h, leads-waits, and-assoc (okEntry (rules a n) x) (free && q) (tidy r), and-assoc free q (tidy r))
+      rw (used-go l i h, tidy-go l i h, leads-split order x (used r), and-assoc (okEntry (rules a n) x) ((free && rises) && q) (tidy r), and-assoc (free && rises) q (tidy r))
 
-  pub test-bad : (ended : Bool) → ended || eqb (x .task) 0 ≡ false → okEntry (rules a n) x ≡ false → testFrom a n seen ended (drop i l) ≡ false
+  pub test-bad : (ended : Bool) → ended || eqb (x .task) 0 ≡ false → okEntry (rules a n) x ≡ false → testFrom a n seen last ended (drop i l) ≡ false
   test-bad true h b = clash true refl h
   test-bad false h b = rw (sound-split (eqb-false (x .task) 0 h), b)
 
-  pub test-twice : (ended : Bool) → ended || eqb (x .task) 0 ≡ false → getD seen (x .task) false ≡ true → testFrom a n seen ended (drop i l) ≡ false
-  unfolding unmarked
-  test-twice true h m = clash true refl h
-  test-twice false h m = and-f-r (soundQueue a n (drop i l)) _ (rw (used-go l i (eqb-false (x .task) 0 h), m))
+  -- its task is marked, or its rank is below the last
+  abbrev out-of-place : Bool
+  out-of-place = getD seen (x .task) false || ltb (rankBy order x) last
 
-  pub test-go : (ended : Bool) → ended || eqb (x .task) 0 ≡ false → okEntry (rules a n) x ≡ true → getD seen (x .task) false ≡ false → x .task < length seen → testFrom a n seen ended (drop i l) ≡ testFrom a n (set seen (x .task) true) ended r
-  unfolding unmarked
+  pub test-out : (ended : Bool) → ended || eqb (x .task) 0 ≡ false → out-of-place ≡ true → testFrom a n seen last ended (drop i l) ≡ false
+  unfolding unmarked above
+  test-out true h m = clash true refl h
+  test-out false h m =
+      let go = used-go l i (eqb-false (x .task) 0 h) in
+      and-f-r (soundQueue a n (drop i l)) _
+      (by (getD seen (x .task) false)
+      (λ s. rw (go, s))
+      (λ s. let low = ltb-true (rankBy order x) last (rw s at m) in
+      and-f-r (unmarked seen (used (drop i l))) _ (rw (go, lt-leb last (rankBy order x) low))))
+
+  pub test-go : (ended : Bool) → ended || eqb (x .task) 0 ≡ false → okEntry (rules a n) x ≡ true → out-of-place ≡ false → x .task < length seen
+      → testFrom a n seen last ended (drop i l) ≡ testFrom a n (set seen (x .task) true) (rankBy order x) ended r
+  unfolding unmarked above
   test-go true h ok m k = clash true refl h
   test-go false h ok m k =
       let u = eqb-false (x .task) 0 h in
-      rw (sound-split u, used-go l i u, ok, m, unmarked-set seen (x .task) k (used r))
-      (and-assoc (not (waits (x .task) (used r))) (soundQueue a n r) (unmarked seen (used r))
-      ∙ and-swap (not (waits (x .task) (used r))) (soundQueue a n r) (unmarked seen (used r)))
+      let s = or-f-l (getD seen (x .task) false) (ltb (rankBy order x) last) m in
+      let high = ltb-false (rankBy order x) last (or-f-r (getD seen (x .task) false) (ltb (rankBy order x) last) m) in
+      rw (sound-split u, used-go l i u, ok, s, le-leb last (rankBy order x) high, unmarked-set seen (x .task) k (used r))
+      (regroup free rises (soundQueue a n r) (unmarked seen (used r)) (above order last (used r)) (above-less order last (rankBy order x) (used r) high))
 
-  pub test-end : (ended : Bool) → length l ≡ most-tasks → most-tasks ≤ i → testFrom a n seen ended (drop i l) ≡ true
-  unfolding queued used tidy allUnused unmarked
+  pub test-end : (ended : Bool) → length l ≡ most-tasks → most-tasks ≤ i → testFrom a n seen last ended (drop i l) ≡ true
+  unfolding queued used tidy allUnused unmarked above
   test-end true e h = rw (drop-end l i e h)
   test-end false e h = rw (drop-end l i e h)
 
@@ -172,14 +218,6 @@ module _ (t : ℕ) (q : List Entry) where
       let k : i ≡ place t q = cc in
       record { waiting = w; within = rw k (place-length t q w); removed = rw k (without-place t q) }
 
--- ---- who joins
-
--- a newcomer stands behind all others
-pub insert-last : (e : Entry) (q : List Entry) → insert rank e q ≡ q ++ e ∷ []
-unfolding insert
-insert-last e [] = refl
-insert-last e (x ∷ q) = ap (λ (k : List Entry). x ∷ k) (insert-last e q)
-
 -- ---- the head
 
 module _ (es : List Entry) where
@@ -190,9 +228,13 @@ module _ (es : List Entry) where
       (λ h. let z = eqb-true (getD es 0 noEntry .task) 0 h in rw (used-stop es 0 z) (sym z))
       (λ h. rw (used-go es 0 (eqb-false (getD es 0 noEntry .task) 0 h)))
 
-  pub head-blocks : (r : ℕ) → blocked rank r (used es) ≡ not (eqb (getD es 0 noEntry .task) 0)
-  unfolding blocked
-  head-blocks r =
-      by (eqb (getD es 0 noEntry .task) 0)
-      (λ h. rw (h, used-stop es 0 (eqb-true (getD es 0 noEntry .task) 0 h)))
-      (λ h. rw (h, used-go es 0 (eqb-false (getD es 0 noEntry .task) 0 h)) (le-leb 0 r (omega arith)))
+  -- a request of rank r is not blocked exactly if there is no head or its rank is above r
+  pub head-decides : (a : Attributes) (n r : ℕ) → queued (rules a n) (used es) ≡ true → blocked (rankBy (a .order)) r (used es) ≡ not (eqb (getD es 0 noEntry .task) 0 || ltb r (rankBy (a .order) (getD es 0 noEntry)))
+  unfolding blocked rules
+  head-decides a n r o =
+      let x = getD es 0 noEntry in
+      let k = rankBy (a .order) x in
+      by (eqb (x .task) 0)
+      (λ h. rw (h, used-stop es 0 (eqb-true (x .task) 0 h)))
+      (λ h. let g = used-go es 0 (eqb-false (x .task) 0 h) in
+      rw (h, g) (head-blocks (rules a n) r x _ (rw g at o) ∙ by (ltb r k) (λ l. rw l (lt-leb k r (ltb-true r k l))) (λ l. rw l (le-leb k r (ltb-false r k l)))))

@@ -5,7 +5,7 @@ use mathlib.Core.Bool.{Bool, true, false}
 use mathlib.Core.List.{List, [], _∷_, map}
 use lib.IntN.{pos}
 use Rattle.model.specs.declared.Entry.{Entry}
-use Rattle.model.specs.Limits.{most-tasks, forever, minus}
+use Rattle.model.specs.Limits.{most-tasks, lowest-priority, forever, minus}
 use Rattle.model.specs.Waiting.{leads}
 use Rattle.model.specs.Rules.{queued, rules}
 use Rattle.model.specs.Places.{noEntry, pad, used, allUnused, tidy}
@@ -17,7 +17,7 @@ pub limits : map limitOf (minus 2 ∷ minus 1 ∷ pos 0 ∷ pos 1 ∷ pos 214748
 limits = refl
 
 abbrev entry : ℕ → ℕ → ℕ → Entry
-entry t n l = record { task = t; size = n; left = l }
+entry t n l = record { task = t; size = n; left = l; priority = lowest-priority }
 
 -- the queue of a pool of 64 bytes
 abbrev sound64 : List Entry → Bool

@@ -1,6 +1,6 @@
 -- Laws of the queue's places: what is stored in them, and each definition at one place more. Assumes nothing.
 use Prim.Native.Nat.{ℕ, zero, suc, _+_, _≤_, _<_}
-use mathlib.Core.Path.{_≡_, refl, ap, _∙_}
+use mathlib.Core.Path.{_≡_, refl, sym, ap, _∙_}
 use mathlib.Core.Bool.{true, false, cond, _&&_}
 use mathlib.Core.List.{List, [], _∷_, _++_, append-assoc}
 use native.Mathlib.Omega.{arith}
@@ -56,6 +56,18 @@ module _ {A : Type 0} (d : A) where
   pub copy-step : (n i k : ℕ) (l ys : List A) → i < length l → pad d n (take i l ++ drop k ys) ≡ pad d n (take (i + 1) (set l i (getD ys k d)) ++ drop (k + 1) ys)
   copy-step n i k l ys h = pad-drop n k (take i l) ys ∙ rw (add-one, add-one, take-suc-set l i (getD ys k d) h, append-assoc)
 
+  -- the last element, in front of empty places
+  empty-places : (l : List A) → ((k : ℕ) → getD l k d ≡ d) → l ≡ pad d (length l) []
+  unfolding pad
+  empty-places [] h = refl
+  empty-places (x ∷ l) h = λ i. h 0 i ∷ empty-places l (λ k. h (suc k)) i
+
+  pub copy-last : (l : List A) (i : ℕ) (x : A) → i < length l → ((k : ℕ) → i < k → getD l k d ≡ d) → pad d (length l) (take i l ++ x ∷ []) ≡ set l i x
+  unfolding pad
+  copy-last [] i x h e = absurd (omega arith)
+  copy-last (y ∷ l) zero x h e = ap (λ (k : List A). x ∷ k) (sym (empty-places l (λ k. e (suc k) (omega arith))))
+  copy-last (y ∷ l) (suc i) x h e = ap (λ (k : List A). y ∷ k) (copy-last l i x (omega arith) (λ k m. e (suc k) (omega arith)))
+
   pub copy-end : (n i : ℕ) (l ys : List A) → length l ≡ n → n ≤ i → pad d n (take i l ++ ys) ≡ l
   copy-end n i l ys e h = rw (← e, take-all i l (omega arith)) (pad-whole l ys)
 
@@ -108,10 +120,6 @@ module _ (i : ℕ) (l : List Entry) (h : i ≤ length (used l)) where
 
   pub used-drop : drop i (used l) ≡ used (drop i l)
   used-drop = used-parts i l h .1
-
--- an entry behind the last; where no place is left, the places stay
-pub join-places : (l : List Entry) (e : Entry) → tidy l ≡ true → length l ≡ most-tasks → set l (length (used l)) e ≡ pad noEntry most-tasks (used l ++ e ∷ [])
-join-places l e t n = let w : l ≡ pad noEntry most-tasks (used l) = rw (← n) (tidy-is l t) in ap (λ (k : List Entry). set k (length (used l)) e) w ∙ sets-behind noEntry most-tasks (used l) (e ∷ [])
 
 -- ---- one place more
 

@@ -35,10 +35,6 @@ found t q = cond (waits t q) (At (place t q)) Nothing
 
 -- ---- who joins and who leaves
 
--- who asked first is served first
-abbrev pub rank : Entry → ℕ
-rank e = 0
-
 -- the entries without the one at place i
 abbrev pub without : ℕ → List Entry → List Entry
 without i q = take i q ++ drop (suc i) q

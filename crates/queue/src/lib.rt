@@ -5,17 +5,20 @@ ghost use mathlib.Core.List.{[], _++_};
 ghost use Prim.Native.Nat.{ℕ, _+_, _-_, _≤_, _<_};
 ghost use lib.ListN.{length, take, drop};
 ghost use Rattle.model.specs.declared.Attributes.{Attributes};
-ghost use Rattle.model.specs.Limits.{most-tasks};
+ghost use Rattle.model.specs.Limits.{most-tasks, lowest-priority};
 ghost use Rattle.model.specs.Waiting.{okLeft, aged, insert};
-ghost use Rattle.model.specs.Rules.{okTask, mostAsked, okEntry, rules};
+ghost use Rattle.model.specs.Rules.{okTask, okOrder, okPriority, rankBy, mostAsked, okEntry, rules};
 ghost use Rattle.model.specs.Places.{noEntry, pad, used, isUnused, tidy, wokenOf};
-ghost use Rattle.queue.specs.Entries.{soundQueue, found, rank, without, tickedOf, limitOf};
+ghost use Rattle.queue.specs.Entries.{soundQueue, found, without, tickedOf, limitOf};
 use model::Attributes;
 use model::BlockOffset;
 use model::E_TMOUT;
 use model::Entry;
+use model::FIFO_ORDER;
 use model::FOREVER;
 use model::LONGEST_LEFT;
+use model::LOWEST_PRIORITY;
+use model::PRIORITY_ORDER;
 use model::TASKS;
 use model::Woken;
 
@@ -27,6 +30,7 @@ const NO_ENTRY: Entry = Entry {
     task: 0,
     size: 0,
     left: 0,
+    priority: 0,
 };
 
 const NO_WOKEN: Woken = Woken {
@@ -60,6 +64,20 @@ pub fn is_task(task: u32) -> bool
     (1 <= task) & (task <= LAST_TASK)
 }
 
+// Whether this priority may be asked.
+pub fn is_priority(priority: u32) -> bool
+    ensures { λ r. ⌜ r ≡ okPriority priority ⌝ }
+{
+    (1 <= priority) & (priority <= LOWEST_PRIORITY)
+}
+
+// Whether this is the number of an order.
+pub fn is_order(order: u16) -> bool
+    ensures { λ r. ⌜ r ≡ okOrder order ⌝ }
+{
+    (order == FIFO_ORDER) | (order == PRIORITY_ORDER)
+}
+
 // Whether this time left may stand in an entry.
 fn is_left(left: u32) -> bool
     ensures { λ r. ⌜ r ≡ okLeft left ⌝ }
@@ -71,26 +89,39 @@ fn is_left(left: u32) -> bool
 fn is_entry(most: usize, e: Entry) -> bool
     ensures { λ r. ⌜ ((a : Attributes) (n : ℕ) → most ≡ mostAsked a n → r ≡ okEntry (rules a n) e) ⌝ }
 {
-    is_task(e.task) & (sizes::is_size(most, e.size) & is_left(e.left))
+    is_task(e.task as u32)
+        & ((sizes::is_size(most, e.size) & is_priority(e.priority as u32)) & is_left(e.left))
 }
 
 // Whether this place is all zeros.
 fn is_unused(e: Entry) -> bool
     ensures { λ r. ⌜ r ≡ isUnused e ⌝ }
 {
-    (e.task == 0) & ((e.size == 0) & (e.left == 0))
+    (e.task == 0) & ((e.size == 0) & ((e.left == 0) & (e.priority == 0)))
+}
+
+// The rank of an entry: who has the lower one is served first.
+pub fn rank(order: u16, e: Entry) -> u32
+    ensures { λ r. ⌜ r ≡ rankBy order e ⌝ }
+{
+    if order == PRIORITY_ORDER {
+        return e.priority as u32;
+    }
+    0
 }
 
 // A place for each task's number, and for 0.
 const NUMBERS: usize = TASKS + 1;
 
-// Whether the entries are sound in a pool of `n` bytes with these attributes. `seen` marks the tasks of the entries passed; once these have ended,
-// only unused places follow.
+// Whether the entries are sound in a pool of `n` bytes with these attributes. `seen` marks the tasks of the entries passed, and `last` is the rank of the
+// last of them; once these have ended, only unused places follow.
 pub fn is_sound(attributes: Attributes, entries: [Entry; TASKS], n: usize) -> bool
     ensures { λ r. ⌜ r ≡ soundQueue attributes n entries ⌝ }
 {
     let most = sizes::most_asked(attributes, n);
+    let order = attributes.order;
     let mut seen = [false; NUMBERS];
+    let mut last: u32 = 0;
     let mut ended = false;
     for i in 0..TASKS {
         let e = entries[i];
@@ -104,10 +135,12 @@ pub fn is_sound(attributes: Attributes, entries: [Entry; TASKS], n: usize) -> bo
                 return false;
             }
             let task = e.task as usize;
-            if seen[task] {
+            let own = rank(order, e);
+            if seen[task] | (own < last) {
                 return false;
             }
             seen[task] = true;
+            last = own;
         }
     }
     true
@@ -130,7 +163,7 @@ pub fn find(entries: [Entry; TASKS], task: u32) -> Slot
         if e.task == 0 {
             return Slot::Nothing;
         }
-        if e.task == task {
+        if e.task as u32 == task {
             return Slot::At(i);
         }
     }
@@ -139,17 +172,25 @@ pub fn find(entries: [Entry; TASKS], task: u32) -> Slot
 
 // ---- who joins and who leaves
 
-// The queue with a newcomer, behind all others.
-pub fn join(entries: [Entry; TASKS], e: Entry) -> [Entry; TASKS]
-    requires { ⌜ tidy entries ≡ true ⌝ }
-    ensures { λ r. ⌜ r ≡ pad noEntry most-tasks (insert rank e (used entries)) ⌝ }
+// The queue with a newcomer, behind those of lower or equal rank. `carried` is the entry to be stored next, in front of the first of rank `least` or more:
+// the newcomer, and then, at each place, the one that stood there.
+pub fn join(order: u16, entries: [Entry; TASKS], e: Entry) -> [Entry; TASKS]
+    requires { ⌜ (tidy entries ≡ true) × (e .priority ≤ lowest-priority) ⌝ }
+    ensures { λ r. ⌜ r ≡ pad noEntry most-tasks (insert (rankBy order) e (used entries)) ⌝ }
 {
+    let mut least = rank(order, e) + 1;
     let mut out = entries;
+    let mut carried = e;
     for i in 0..TASKS {
         let x = out[i];
         if x.task == 0 {
-            out[i] = e;
+            out[i] = carried;
             return out;
+        }
+        if least <= rank(order, x) {
+            out[i] = carried;
+            carried = x;
+            least = 0;
         }
     }
     out
@@ -204,6 +245,7 @@ fn age(e: Entry) -> Entry
         task: e.task,
         size: e.size,
         left: e.left - 1,
+        priority: e.priority,
     }
 }
 
@@ -231,7 +273,7 @@ pub fn tick(entries: [Entry; TASKS]) -> Ticked
         i += 1;
         if e.left == 1 {
             woken[n] = Woken {
-                task: e.task,
+                task: e.task as u32,
                 code: E_TMOUT,
                 offset: BlockOffset(0),
             };

@@ -7,7 +7,7 @@ ghost use Prim.Native.Nat.{_+_, _≤_};
 ghost use Rattle.model.specs.Sizes as sizes;
 ghost use Rattle.model.specs.Sizes.{last-place, smallest, kindFor, okGreatest};
 ghost use Rattle.sizes.specs.Search.{skipped};
-ghost use Rattle.model.specs.Rules.{okAttributes, mostAsked, okSize, needOf};
+ghost use Rattle.model.specs.Rules.{okKinds, mostAsked, okSize, needOf};
 
 // The size kinds of source 000: number i, counted from 1, is 24 times 2^(i-1), less 12.
 const KINDS: [u32; 24] = [
@@ -101,9 +101,9 @@ fn is_greatest(greatest: u32, n: usize) -> bool
     top as usize + 8 <= n
 }
 
-// Whether create takes these attributes for a pool of `n` bytes.
+// Whether create takes this choice of rounding and this greatest request for a pool of `n` bytes.
 pub fn is_valid(attributes: Attributes, n: usize) -> bool
-    ensures { λ r. ⌜ r ≡ okAttributes attributes n ⌝ }
+    ensures { λ r. ⌜ r ≡ okKinds attributes n ⌝ }
 {
     if attributes.kinds == WITHOUT_KINDS {
         return attributes.greatest == 0;

@@ -13,6 +13,7 @@ use Rattle.model.specs.Pool.{defaults, view, soundBy, performBy, create}
 use Rattle.numbers.specs.Number.{decode}
 use Rattle.log.specs.Fields.{readFields}
 use Rattle.log.specs.Record.{limitOf, recordOf}
+use Rattle.log.specs.Log.{startOf}
 use Rattle.transcript.specs.Text.{digits, decimal, signed}
 use Rattle.transcript.specs.Transcript.{wokenText, answerText, recordsText, poolText, transcriptOf}
 
@@ -64,12 +65,41 @@ ticks-text =
 
 -- a kind that is none, after a tick
 abbrev bad : List ℕ
-bad = 0x0C ∷ 0x05 ∷ 0x06 ∷ 0x05 ∷ []
+bad = 0x0C ∷ 0x05 ∷ 0x09 ∷ 0x05 ∷ []
 
 abbrev bad-text : List ℕ
 bad-text =
     (112 ∷ 111 ∷ 111 ∷ 108 ∷ 32 ∷ 49 ∷ 50 ∷ 10 ∷ [])
     ++ (48 ∷ 32 ∷ 48 ∷ 10 ∷ [])
+    ++ (98 ∷ 97 ∷ 100 ∷ 32 ∷ 108 ∷ 111 ∷ 103 ∷ 32 ∷ 97 ∷ 116 ∷ 32 ∷ 50 ∷ 10 ∷ [])
+
+-- by priority: task 3 waits with priority 9, a poll of priority 9 is refused, a get without a priority has 16 and waits, and a poll of priority 1 is granted
+abbrev priorities : List ℕ
+priorities =
+    0x40 ∷ 0x08 ∷ 0x01 ∷ 0x01 ∷ 0x0A ∷ 0x00 ∷ 0x01 ∷ 0x02 ∷ 0x14 ∷ 0x00 ∷ 0x06 ∷ 0x03 ∷ 0x0C ∷ 0x00 ∷ 0x09
+    ∷ 0x07 ∷ 0x05 ∷ 0x04 ∷ 0x09 ∷ 0x01 ∷ 0x04 ∷ 0x04 ∷ 0x00 ∷ 0x07 ∷ 0x05 ∷ 0x04 ∷ 0x01 ∷ []
+
+abbrev priorities-text : List ℕ
+priorities-text =
+    (112 ∷ 111 ∷ 111 ∷ 108 ∷ 32 ∷ 54 ∷ 52 ∷ 10 ∷ [])
+    ++ (48 ∷ 32 ∷ 56 ∷ 10 ∷ [])
+    ++ (48 ∷ 32 ∷ 50 ∷ 56 ∷ 10 ∷ [])
+    ++ (49 ∷ 32 ∷ 48 ∷ 10 ∷ [])
+    ++ (45 ∷ 53 ∷ 48 ∷ 32 ∷ 48 ∷ 10 ∷ [])
+    ++ (49 ∷ 32 ∷ 48 ∷ 10 ∷ [])
+    ++ (48 ∷ 32 ∷ 53 ∷ 54 ∷ 10 ∷ [])
+    ++ (101 ∷ 110 ∷ 100 ∷ 32 ∷ 54 ∷ 32 ∷ 114 ∷ 101 ∷ 99 ∷ 111 ∷ 114 ∷ 100 ∷ 115 ∷ 10 ∷ [])
+
+-- the mark of the order after a tick, and twice: bad at its place
+abbrev misplaced : List ℕ
+misplaced = 0x0C ∷ 0x05 ∷ 0x08 ∷ 0x05 ∷ []
+
+abbrev twice : List ℕ
+twice = 0x0C ∷ 0x08 ∷ 0x08 ∷ 0x05 ∷ []
+
+abbrev twice-text : List ℕ
+twice-text =
+    (112 ∷ 111 ∷ 111 ∷ 108 ∷ 32 ∷ 49 ∷ 50 ∷ 10 ∷ [])
     ++ (98 ∷ 97 ∷ 100 ∷ 32 ∷ 108 ∷ 111 ∷ 103 ∷ 32 ∷ 97 ∷ 116 ∷ 32 ∷ 50 ∷ 10 ∷ [])
 
 -- a length and no record
@@ -82,24 +112,25 @@ no-record-text =
     ++ (101 ∷ 110 ∷ 100 ∷ 32 ∷ 48 ∷ 32 ∷ 114 ∷ 101 ∷ 99 ∷ 111 ∷ 114 ∷ 100 ∷ 115 ∷ 10 ∷ [])
 
 computed : (transcriptOf defaults log ≡ log-text) × (transcriptOf defaults ticks ≡ ticks-text) × (transcriptOf defaults bad ≡ bad-text) × (transcriptOf defaults no-record ≡ no-record-text)
-unfolding total tiled fits firstFit carve granted startsAt join freed sumFree greatestFree blocksFrom le32 header overlay written mask render erase waits remove headTask insert blocked leads expired remaining queued rules leave serve headStuck sound tests act pad used allUnused tidy view soundBy performBy create decode readFields limitOf recordOf digits wokenText answerText recordsText poolText transcriptOf
-computed = (refl, refl, refl, refl)
+    × (transcriptOf defaults priorities ≡ priorities-text) × (transcriptOf defaults misplaced ≡ bad-text) × (transcriptOf defaults twice ≡ twice-text)
+unfolding total tiled fits firstFit carve granted startsAt join freed sumFree greatestFree blocksFrom le32 header overlay written mask render erase waits remove headTask insert blocked leads expired remaining queued rules leave serve headStuck sound tests act pad used allUnused tidy view soundBy performBy create decode readFields limitOf recordOf digits wokenText answerText recordsText startOf poolText transcriptOf
+computed = (refl, refl, refl, refl, refl, refl, refl)
 
 -- an empty log
 empty : transcriptOf defaults [] ≡ 98 ∷ 97 ∷ 100 ∷ 32 ∷ 108 ∷ 111 ∷ 103 ∷ 32 ∷ 97 ∷ 116 ∷ 32 ∷ 48 ∷ 10 ∷ []
-unfolding decode digits poolText transcriptOf
+unfolding decode digits startOf poolText transcriptOf
 empty = refl
 
 -- a length that is not in its shortest form
 not-shortest : transcriptOf defaults (0x80 ∷ 0x00 ∷ 0x05 ∷ []) ≡ 98 ∷ 97 ∷ 100 ∷ 32 ∷ 108 ∷ 111 ∷ 103 ∷ 32 ∷ 97 ∷ 116 ∷ 32 ∷ 48 ∷ 10 ∷ []
-unfolding decode digits poolText transcriptOf
+unfolding decode digits startOf poolText transcriptOf
 not-shortest = refl
 
 -- lengths that are not allowed: 14 and 2^32 - 1
 refused : transcriptOf defaults (0x0E ∷ 0x05 ∷ []) ≡ 112 ∷ 111 ∷ 111 ∷ 108 ∷ 32 ∷ 114 ∷ 101 ∷ 102 ∷ 117 ∷ 115 ∷ 101 ∷ 100 ∷ 32 ∷ 45 ∷ 49 ∷ 55 ∷ 10 ∷ []
-unfolding rules decode poolText transcriptOf
+unfolding rules decode startOf poolText transcriptOf
 refused = refl
 
 refused-greatest : transcriptOf defaults (0xFF ∷ 0xFF ∷ 0xFF ∷ 0xFF ∷ 0x0F ∷ 0x05 ∷ []) ≡ 112 ∷ 111 ∷ 111 ∷ 108 ∷ 32 ∷ 114 ∷ 101 ∷ 102 ∷ 117 ∷ 115 ∷ 101 ∷ 100 ∷ 32 ∷ 45 ∷ 49 ∷ 55 ∷ 10 ∷ []
-unfolding rules decode poolText transcriptOf
+unfolding rules decode startOf poolText transcriptOf
 refused-greatest = refl

@@ -13,21 +13,21 @@ use lib.Seq.{drop-append-seam}
 use borrow.Author.Tests.{le-leb, lt-leb}
 use Rattle.model.specs.Limits.{e-ok, e-par}
 use Rattle.model.specs.declared.Attributes.{Attributes}
-use Rattle.model.specs.Rules.{rules}
+use Rattle.model.specs.Rules.{okLong, okKinds, okOrder, okAttributes, rules}
 use Rattle.model.specs.Runs.{run}
 use Rattle.model.specs.Pool.{Stored, perform, create}
-use Rattle.model.proofs.Tests.{by}
-use Rattle.numbers.specs.declared.Number.the-variants.{Value, Refused}
-use Rattle.numbers.specs.Number.{numberOf, numberBound, encode}
-use Rattle.numbers.proofs.Theorems.{number-encode}
+use Rattle.model.proofs.Tests.{by, and-l, and-r}
+use Rattle.numbers.specs.Number.{numberBound}
 use Rattle.log.specs.declared.Record.{Record}
+use Rattle.log.specs.declared.Start.the-variants as start
 use Rattle.log.specs.declared.Read.the-variants.{Taken, End, Bad}
 use Rattle.log.specs.Record.{recordOf, encodeRecord}
-use Rattle.log.specs.Log.{encodeRecords, logOf, AllExpressible}
+use Rattle.log.specs.Log.{startBytes, startOf, encodeRecords, logOf, AllExpressible}
 use Rattle.log.proofs.Theorems.{record-encode, record-length}
+use Rattle.log.proofs.Starts.{start-encode}
 use Rattle.transcript.specs.Text.{digit, digits, decimal, signed, valueFrom, valueOf, allDigits}
 use Rattle.transcript.specs.Lines.{poolLine, answerLine, wokenLine, endLine, badLine, refusedLine, tooLongLine, longestAnswer, longestLine, isLine}
-use Rattle.transcript.specs.Transcript.{longestLog, callOf, answerText, recordsText, freshPool, poolText, transcriptOf, callsOf, turnsText}
+use Rattle.transcript.specs.Transcript.{longestLog, callOf, answerText, recordsText, freshPool, withOrder, poolText, transcriptOf, callsOf, turnsText}
 use Rattle.transcript.proofs.Decimal.{decimal-ind, decimal-digits, length-word, length-half, value-append}
 use Rattle.transcript.proofs.Sign.{signed-length}
 use Rattle.transcript.proofs.Lines.{line-decimal, line-signed}
@@ -175,32 +175,41 @@ pub freshPool-code : (a : Attributes) (n : ℕ) → freshPool a n .said .code �
 unfolding create
 freshPool-code a n = by (rules a n .valid) (λ v. rw (length-replicate, v)) (λ v. rw (length-replicate, v))
 
+-- a pool that create takes has a known order
+valid-order : (a : Attributes) (n : ℕ) → rules a n .valid ≡ true → okOrder (a .order) ≡ true
+unfolding rules
+valid-order a n v = and-l (okOrder (a .order)) (okKinds a n) (and-r (okLong n) (okAttributes a n) v)
+
 module _ (a : Attributes) (log : List ℕ) where
   pub transcript-too-long : longestLog < length log → transcriptOf a log ≡ tooLongLine
   unfolding transcriptOf
   transcript-too-long h = rw (lt-leb (length log) longestLog h, transcriptOf)
 
   module _ (fits : length log ≤ longestLog) where
-    text : transcriptOf a log ≡ poolText a (numberOf log) log
+    text : transcriptOf a log ≡ poolText a (startOf log) log
     unfolding transcriptOf
     text = rw (le-leb (length log) longestLog fits, transcriptOf)
 
-    pub transcript-bad : numberOf log ≡ Refused → transcriptOf a log ≡ badLine 0
+    pub transcript-bad : startOf log ≡ start.Bad → transcriptOf a log ≡ badLine 0
     unfolding poolText
     transcript-bad e = text ∙ rw e
 
-    module _ (n size : ℕ) (e : numberOf log ≡ Value n size) where
-      pub transcript-refused : rules a n .valid ≡ false → transcriptOf a log ≡ refusedLine
+    module _ (n order place : ℕ) (e : startOf log ≡ start.Taken n order place) where
+      abbrev own : Attributes
+      own = withOrder order a
+
+      pub transcript-refused : rules own n .valid ≡ false → transcriptOf a log ≡ refusedLine
       unfolding poolText
       transcript-refused v = text ∙ rw (e, v, poolText)
 
-      pub transcript-pool : rules a n .valid ≡ true → transcriptOf a log ≡ poolLine n ++ recordsText 0 size 0 (freshPool a n .state) (drop size log)
+      pub transcript-pool : rules own n .valid ≡ true → transcriptOf a log ≡ poolLine n ++ recordsText 0 place 0 (freshPool own n .state) (drop place log)
       unfolding poolText
-      transcript-pool v = text ∙ rw (e, v, poolText, records-skip size 0 0 (freshPool a n .state) log, zero-add size)
+      transcript-pool v = text ∙ rw (e, v, poolText, records-skip place 0 0 (freshPool own n .state) log, zero-add place)
 
 -- a log that was written: the text of the run of its calls
-pub transcript-run : (a : Attributes) (n : ℕ) (rs : List Record) → length (logOf n rs) ≤ longestLog → n < numberBound → rules a n .valid ≡ true → AllExpressible rs
-    → transcriptOf a (logOf n rs) ≡ poolLine n ++ (turnsText (run (perform rules) (freshPool a n .state) (callsOf rs)) ++ endLine (length rs))
-transcript-run a n rs fits small v h =
-    transcript-pool a (logOf n rs) fits n (length (encode n)) (number-encode n (encodeRecords rs) small) v
-    ∙ rw (drop-append-seam (encode n) (encodeRecords rs), records-run rs (length (encode n)) 0 (freshPool a n .state) h, zero-add (length rs))
+pub transcript-run : (a : Attributes) (n order : ℕ) (rs : List Record) → length (logOf n order rs) ≤ longestLog → n < numberBound → rules (withOrder order a) n .valid ≡ true → AllExpressible rs
+    → transcriptOf a (logOf n order rs) ≡ poolLine n ++ (turnsText (run (perform rules) (freshPool (withOrder order a) n .state) (callsOf rs)) ++ endLine (length rs))
+transcript-run a n order rs fits small v h =
+    let start = startBytes n order in
+    transcript-pool a (logOf n order rs) fits n order (length start) (start-encode n order rs small (valid-order (withOrder order a) n v) h) v
+    ∙ rw (drop-append-seam start (encodeRecords rs), records-run rs (length start) 0 (freshPool (withOrder order a) n .state) h, zero-add (length rs))

@@ -15,12 +15,23 @@ pub type PoolLog = (Attributes, Vec<u8>);
 /// Deals a pool and queue in a random state, by seed and number.
 pub type State = fn(u64, u64) -> Dealer;
 
-/// States of pools without kinds, and of pools with kinds.
-pub const STATES: [State; 2] = [random_state, random_kinds_state];
+/// States of FIFO pools without and with priorities, of priority pools, and of
+/// pools with kinds of either order.
+pub const STATES: [State; 4] = [
+    random_state,
+    random_fifo_state,
+    random_priority_state,
+    random_kinds_state,
+];
 
 /// A pool of `len` bytes, an allowed length.
 pub fn create(len: u32) -> Pool {
     Pool::create(len, Attributes::default()).expect("the length is allowed")
+}
+
+/// A priority pool of `len` bytes, an allowed length.
+pub fn create_by_priority(len: u32) -> Pool {
+    Pool::create(len, Attributes::by_priority()).expect("the length is allowed")
 }
 
 /// A pool with kinds, of a length and an M that are allowed.
@@ -113,26 +124,51 @@ pub fn woke(list: &[(u32, i32, u32)]) -> Answer {
     }
 }
 
-/// A dealer whose pool, without kinds, and queue are in a random state.
-pub fn random_state(seed: u64, index: u64) -> Dealer {
+/// A generator and a pool length.
+fn random_length(seed: u64, index: u64) -> (Rng, u32) {
     let mut rng = Rng::new(seed, index);
     let len = match rng.below(3) {
         0 => 4 * rng.between(3, 16),
         1 => 4 * rng.between(3, 100),
         _ => 4 * rng.between(100, 600),
     };
-    let count = rng.below(60);
-    let mut dealer = Dealer::new(rng, len);
+    (rng, len)
+}
+
+fn with_records(mut dealer: Dealer) -> Dealer {
+    let count = dealer.rng.below(60);
     dealer.put_many(count);
     dealer
 }
 
-/// The same on a pool with kinds.
+/// A dealer whose pool and queue are in a random state, without kinds and
+/// priorities.
+pub fn random_state(seed: u64, index: u64) -> Dealer {
+    let (rng, len) = random_length(seed, index);
+    with_records(Dealer::new(rng, len))
+}
+
+/// The same with priorities, which have no effect.
+pub fn random_fifo_state(seed: u64, index: u64) -> Dealer {
+    let (rng, len) = random_length(seed, index);
+    with_records(Dealer::new(rng, len).with_priorities())
+}
+
+/// The same on a priority pool.
+pub fn random_priority_state(seed: u64, index: u64) -> Dealer {
+    let (rng, len) = random_length(seed, index);
+    let dealer = Dealer::with(rng, len, Attributes::by_priority());
+    with_records(dealer.with_priorities())
+}
+
+/// The same on a pool with kinds, of either order.
 pub fn random_kinds_state(seed: u64, index: u64) -> Dealer {
-    let mut dealer = any_pool(Rng::new(seed, index));
-    let count = dealer.rng.below(60);
-    dealer.put_many(count);
-    dealer
+    with_records(any_pool(Rng::new(seed, index)))
+}
+
+/// True if the queue stands by priority.
+pub fn is_by_priority(pool: &Pool) -> bool {
+    pool.attributes().order == 1
 }
 
 /// A log with many ticks among records of every kind.
@@ -153,7 +189,7 @@ pub fn logs_with_ticks(state: State) -> impl Iterator<Item = PoolLog> {
     (0..1_500).map(move |index| log_with_ticks(state, index))
 }
 
-/// Dealt logs of every shape, on pools without kinds.
+/// Dealt logs of every shape, on pools without kinds. The order is in the log.
 pub fn dealt_logs() -> impl Iterator<Item = PoolLog> {
     (0..300).map(|index| (Attributes::default(), deal(32, index)))
 }

@@ -1,12 +1,11 @@
 -- `kind_of` meets its contract, a case for each number. Assumes nothing.
-use native.Mathlib.Omega.{arith}
 use borrow.Author.Needs.{needs}
 use Rattle.log.proofs.Forms.{kind-unknown}
 use Rattle.log.proofs.kind_of.Statement.{statement}
 use Rattle.log.proofs.kind_of.Tie as tie
 
-returns-6 : tie.Need-returns-6
-returns-6 c = kind-unknown (c .before .args .number) (λ h. omega arith)
+returns-8 : tie.Need-returns-8
+returns-8 c = let r = c .match .rest in kind-unknown _ (r .0 .0 .0 .0 .0 .0 .1) (r .0 .0 .0 .0 .0 .1) (r .0 .0 .0 .0 .1) (r .0 .0 .0 .1) (r .0 .0 .1) (r .0 .1) (r .1)
 
 pub kind-of-spec : {M : Type 1} → statement M
 kind-of-spec =
@@ -17,4 +16,6 @@ kind-of-spec =
     (λ c. search needs)
     (λ c. search needs)
     (λ c. search needs)
-    returns-6)
+    (λ c. search needs)
+    (λ c. search needs)
+    returns-8)

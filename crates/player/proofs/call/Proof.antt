@@ -13,6 +13,13 @@ returns c =
     let fits : SFits w32 limit = record { sfits = told .known-told .given .1 .1 .0 .1 } in
     rw (told .before .made .given .1) (rw (toZ-ofZ w32 limit fits) at (c .before .before .get .ensures))
 
+returns-6 : tie.Need-returns-6
+returns-6 c =
+    let told = c .before .before .before .before in
+    let limit = told .before .made5 .given .0 .1 .1 .0 in
+    let fits : SFits w32 limit = record { sfits = told .known-told5 .given .1 .1 .0 .1 } in
+    rw (told .before .made5 .given .1) (rw (toZ-ofZ w32 limit fits) at (c .before .before .get2 .ensures))
+
 pub call-spec : {M : Type 1} → statement M
 call-spec =
     tie.close
@@ -29,6 +36,10 @@ call-spec =
     (λ c. search needs)
     (λ c κs. search needs)
     (λ c. search needs)
+    (λ c κs. search needs)
+    (λ c. search needs)
+    (λ c κs. search needs)
+    (λ c. search needs)
     returns
     (λ c. search needs)
     (λ c. rw (c .before .before .before .before .before .made2 .given .1) (c .before .before .poll .ensures))
@@ -37,4 +48,8 @@ call-spec =
     (λ c. search needs)
     (λ c. rw (c .before .before .before .before .before .made4 .given .1) (c .before .before .cancel .ensures))
     (λ c. search needs)
-    (λ c. rw (c .before .before .before .before .enum-told .given .1) (c .before .before .tick .ensures)))
+    (λ c. rw (c .before .before .before .before .enum-told .given .1) (c .before .before .tick .ensures))
+    (λ c. search needs)
+    returns-6
+    (λ c. search needs)
+    (λ c. rw (c .before .before .before .before .before .made6 .given .1) (c .before .before .poll2 .ensures)))

@@ -14,8 +14,9 @@ returns c =
 
 returns-2 : tie.Need-returns-2
 returns-2 c =
-    let a = c .before .before .before .before .before .before .args in
-    inquire-done (a .pool .now) (a .queue) (c .before .before .before .inspect .result) (told target.Nothing (a .pool .now) (a .queue) (c .before .before .before .inspect .result) (c .before .before .before .inspect .ensures) (not-false _ (c .if1 .left)))
+    let i = c .before .before .before .before in
+    let a = i .before .before .before .args in
+    inquire-done (a .pool .now) (a .queue) (i .inspect .result) (told target.Nothing (a .pool .now) (a .queue) (i .inspect .result) (i .inspect .ensures) (not-false _ (c .before .if1 .left)))
 
 pub inquire-spec : {M : Type 1} → statement M
 inquire-spec =
@@ -24,4 +25,5 @@ inquire-spec =
     (λ c κs. search needs)
     (λ c. search needs)
     returns
+    (λ c. search needs)
     returns-2)

@@ -11,7 +11,7 @@ use Rattle.model.specs.declared.Queue.{Queue}
 use Rattle.layout.specs.declared.Target.the-variants as target
 use Rattle.layout.specs.declared.Surveyed.{Surveyed}
 use Rattle.pool.proofs.Inspecting.{Told, told, told-small, unsound, called-unsound}
-use Rattle.pool.proofs.Changing.{tick-ready, tick-done}
+use Rattle.pool.proofs.Changing.{tick-ready, tick-done, tick-none}
 use Rattle.pool.proofs.tick.Statement.{statement}
 use Rattle.pool.proofs.tick.Tie as tie
 
@@ -35,19 +35,26 @@ returns c =
     let a = i .before .before .before .before .args in
     rw (c .refuse .ensures) (called-unsound calls.tick (a .pool .now) (a .queue) (unsound target.Nothing (a .pool .now) (a .queue) (i .inspect .result) (i .inspect .ensures) (not-true _ (c .before .if1 .taken))))
 
+-- nobody leaves
+returns-2 : tie.Need-returns-2
+returns-2 c =
+    let s = c .before .before .before .before .before .before in
+    let t = c .before .before .before .before .before .tick in
+    tick-none (bytes s) (queue s) (seen s) (surveyed s) (t .result) (t .ensures) (c .before .if2 .taken) (λ i. omega (arith, s .before .before .before .before .before .slice-known .given i))
+
 add-serve : tie.Need-add-serve
-add-serve c = let s = c .before .before .before .before .before in omega (arith, told-small target.Nothing (bytes s) (queue s) (seen s) (surveyed s))
+add-serve c = let s = c .before .before .before .before .before .before .before in omega (arith, told-small target.Nothing (bytes s) (queue s) (seen s) (surveyed s))
 
 serve-requires : tie.Need-serve-requires
 serve-requires c κs =
-    let s = c .before .before .before .before .before in
-    let t = c .before .before .before .before .tick in
+    let s = c .before .before .before .before .before .before .before in
+    let t = c .before .before .before .before .before .before .tick in
     tick-ready (bytes s) (queue s) (seen s) (surveyed s) (t .result) (t .ensures) (seen s .greatest + 8) refl
 
-returns-2 : tie.Need-returns-2
-returns-2 c =
-    let s = c .before .before .before .before .before .before .before .before in
-    let t = c .before .before .before .before .before .before .before .tick in
+returns-3 : tie.Need-returns-3
+returns-3 c =
+    let s = c .before .before .before .before .before .before .before .before .before .before in
+    let t = c .before .before .before .before .before .before .before .before .before .tick in
     let v = c .before .before .serve in
     tick-done (bytes s) (queue s) (seen s) (surveyed s) (t .result) (t .ensures) (result (v .result) (v .last .0)) (v .ensures)
 
@@ -60,7 +67,9 @@ tick-spec =
     (λ c. search needs)
     returns
     (λ c κs. search needs)
+    (λ c. search needs)
+    returns-2
     add-serve
     serve-requires
     (λ c. search needs)
-    returns-2)
+    returns-3)

@@ -43,5 +43,5 @@ returns-3 c =
 pub find-spec : {M : Type 1} → statement M
 find-spec =
     tie.close
-    (tie.spec Inv-loop μ-loop (λ c. found-starts _ _) (λ c. search needs) (λ c. search needs) returns returns-2 (λ c. search needs)
+    (tie.spec Inv-loop μ-loop (λ c. found-starts _ _) (λ c. search needs) (λ c. search needs) returns (λ c. search needs) returns-2 (λ c. search needs)
     (λ c. search needs) loop-again returns-3)

@@ -16,7 +16,7 @@ abbrev μ-loop : tie.MeasureT-loop
 μ-loop entries stay₀ woken₀ k₀ n₀ i₀ stay woken k n i = most-tasks - i
 
 loop-again : tie.Need-loop-again Inv-loop μ-loop
-loop-again c = tick-leave _ _ _ _ _ _ (c .before .before .before .before .before .before .loop .inv) (c .before .before .if1 .left) (c .if2 .taken)
+loop-again c = tick-leave _ _ _ _ _ _ (c .before .before .before .before .before .before .before .loop .inv) (c .before .before .before .if1 .left) (c .before .if2 .taken)
 
 loop-again-2 : tie.Need-loop-again-2 Inv-loop μ-loop
 loop-again-2 c =
@@ -39,5 +39,5 @@ tick-spec =
     tie.close
     (tie.spec Inv-loop μ-loop (λ c κs. tt) (λ c κs. tt) (λ c. tick-start _ _ _ (c .before .empty .ensures) (c .nobody .ensures))
     (λ c. search needs) (λ c. search needs) (λ c. search needs) (λ c. search needs) (λ c. search needs) (λ c. search needs)
-    (λ c. search needs) loop-again (λ c κs. tt) (λ c. search needs) (λ c. search needs) (λ c. search needs)
+    (λ c. search needs) (λ c. search needs) loop-again (λ c κs. tt) (λ c. search needs) (λ c. search needs) (λ c. search needs)
     (λ c. search needs) loop-again-2 returns returns-2)

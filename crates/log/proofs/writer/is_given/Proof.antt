@@ -1,8 +1,9 @@
 -- `is_given` meets its contract, a case for each kind. Assumes nothing.
 use mathlib.Core.Path.{sym, _∙_}
 use borrow.Author.Needs.{needs}
+use Rattle.log.specs.declared.Record.the-variants.{Get, PriorityGet}
 use Rattle.log.proofs.Forms.{limit-test}
-use Rattle.log.proofs.Rows.{get-given}
+use Rattle.log.proofs.Rows.{limit-given}
 use Rattle.log.proofs.writer.is_given.Statement.{statement}
 use Rattle.log.proofs.writer.is_given.Tie as tie
 
@@ -10,7 +11,13 @@ returns : tie.Need-returns
 returns c =
     let row = c .before .before .before .before .before .args .row in
     let get = sym (c .before .before .before .before .kind-of .ensures) ∙ c .before .before .enum-told .given .1 in
-    limit-test (row .limit) (record { sfits = c .struct-told .given .1 .1 .1 .0 .1 }) ∙ get-given row ∙ rw get
+    limit-test (row .limit) (record { sfits = c .struct-told .given .1 .1 .1 .0 .1 }) ∙ limit-given row (Get (row .first) (row .second) (row .limit)) ∙ rw get
+
+returns-6 : tie.Need-returns-6
+returns-6 c =
+    let row = c .before .before .before .before .before .args .row in
+    let get = sym (c .before .before .before .before .kind-of .ensures) ∙ c .before .before .enum-told6 .given .1 in
+    limit-test (row .limit) (record { sfits = c .struct-told2 .given .1 .1 .1 .0 .1 }) ∙ limit-given row (PriorityGet (row .first) (row .second) (row .limit) (row .priority)) ∙ rw get
 
 pub is-given-spec : {M : Type 1} → statement M
 is-given-spec =
@@ -23,9 +30,13 @@ is-given-spec =
     (λ c. search needs)
     (λ c. search needs)
     (λ c. search needs)
+    (λ c. search needs)
+    (λ c. search needs)
     returns
     (λ c. search needs)
     (λ c. search needs)
     (λ c. search needs)
+    (λ c. search needs)
+    returns-6
     (λ c. search needs)
     (λ c. search needs))

@@ -1,32 +1,38 @@
 -- `write_log` meets its contract: refused, too long for the buffer, or written. Assumes nothing.
 use mathlib.Core.Path.{sym, _∙_}
 use borrow.Author.Needs.{needs}
-use Rattle.log.proofs.Writing.{write-refused, measured, write-short, rows-fit, write-done}
+use Rattle.log.proofs.Writing.{write-refused, measured, write-short, start-fits, rows-fit, write-done}
 use Rattle.log.proofs.writer.write_log.Statement.{statement}
 use Rattle.log.proofs.writer.write_log.Tie as tie
 
 returns : tie.Need-returns
-returns c = rw (c .refuse .ensures) (write-refused _ _ _ (sym (c .before .before .before .log-length .ensures) ∙ c .before .enum-told .given .1))
+returns c = rw (c .refuse .ensures) (write-refused _ _ _ _ (sym (c .before .before .before .log-length .ensures) ∙ c .before .enum-told .given .1))
 
 returns-2 : tie.Need-returns-2
 returns-2 c =
     let told = c .before .before in
-    let log = measured _ _ _ (sym (told .before .before .before .log-length .ensures) ∙ told .before .needed .given .1) in
+    let log = measured _ _ _ _ (sym (told .before .before .before .log-length .ensures) ∙ told .before .needed .given .1) in
     rw (c .refuse2 .ensures) (write-short log _ (c .before .if1 .taken))
+
+write-start-requires : tie.Need-write-start-requires
+write-start-requires c κs =
+    let told = c .before .before in
+    let log = measured _ _ _ _ (sym (told .before .before .before .log-length .ensures) ∙ told .before .needed .given .1) in
+    start-fits log (c .before .before .before .before .before .before .before .before .before .before .before .args .buf .now) (c .before .if1 .left)
 
 write-rows-requires : tie.Need-write-rows-requires
 write-rows-requires c κs =
     let wrote = c .before .before .before in
     let told = wrote .before .before .before in
-    let log = measured _ _ _ (sym (told .before .before .before .log-length .ensures) ∙ told .before .needed .given .1) in
-    rows-fit log _ (wrote .before .before .if1 .left) (wrote .write-number .ensures)
+    let log = measured _ _ _ _ (sym (told .before .before .before .log-length .ensures) ∙ told .before .needed .given .1) in
+    rows-fit log _ (wrote .before .before .if1 .left) (wrote .write-start .ensures)
 
 returns-3 : tie.Need-returns-3
 returns-3 c =
     let wrote = c .before .before .before .before .before .before in
     let told = wrote .before .before .before in
-    let log = measured _ _ _ (sym (told .before .before .before .log-length .ensures) ∙ told .before .needed .given .1) in
-    write-done log _ (wrote .before .before .if1 .left) (wrote .write-number .ensures) (c .before .before .write-rows .ensures)
+    let log = measured _ _ _ _ (sym (told .before .before .before .log-length .ensures) ∙ told .before .needed .given .1) in
+    write-done log _ (wrote .before .before .if1 .left) (wrote .write-start .ensures) (c .before .before .write-rows .ensures)
 
 pub write-log-spec : {M : Type 1} → statement M
 write-log-spec =
@@ -39,7 +45,7 @@ write-log-spec =
     returns
     (λ c κs. search needs)
     returns-2
-    (λ c κs. search needs)
+    write-start-requires
     write-rows-requires
     (λ c. search needs)
     returns-3)

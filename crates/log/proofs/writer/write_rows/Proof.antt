@@ -12,18 +12,18 @@ use Rattle.log.proofs.writer.write_rows.Statement.{statement}
 use Rattle.log.proofs.writer.write_rows.Tie as tie
 
 abbrev Inv-loop : tie.InvT-loop
-Inv-loop buf₀ start kinds firsts seconds limits at₀ i₀ buf at i =
-    Writing buf₀ start (rowsBytes (columns kinds firsts seconds limits) 0 (length kinds)) buf at
-    (rowsBytes (columns kinds firsts seconds limits) i (length kinds - i))
+Inv-loop buf₀ start kinds firsts seconds limits priorities at₀ i₀ buf at i =
+    Writing buf₀ start (rowsBytes (columns kinds firsts seconds limits priorities) 0 (length kinds)) buf at
+    (rowsBytes (columns kinds firsts seconds limits priorities) i (length kinds - i))
 
 abbrev μ-loop : tie.MeasureT-loop
-μ-loop buf₀ start kinds firsts seconds limits at₀ i₀ buf at i = length kinds - i
+μ-loop buf₀ start kinds firsts seconds limits priorities at₀ i₀ buf at i = length kinds - i
 
 loop-holds : tie.Need-loop-holds Inv-loop μ-loop
-loop-holds c = rw (sub-zero (length (c .before .before .before .before .args .kinds .now))) (writing-start _ _ _ (c .before .before .before .before .pre .1))
+loop-holds c = rw (sub-zero (length (c .before .before .before .before .before .args .kinds .now))) (writing-start _ _ _ (c .before .before .before .before .before .pre .1))
 
 row-at-requires : tie.Need-row-at-requires Inv-loop μ-loop
-row-at-requires c κs = (c .before .before .before .before .before .before .pre .0, c .loop-test .taken)
+row-at-requires c κs = (c .before .before .before .before .before .before .before .pre .0, c .loop-test .taken)
 
 write-row-requires : tie.Need-write-row-requires Inv-loop μ-loop
 write-row-requires c κs =

@@ -1,8 +1,9 @@
--- `player::stages::begin` is safe: the length of the pool lies within the log, and the pool within its buffer. Assumes nothing.
+-- `player::stages::begin` is safe: the start lies within the log, and the pool within its buffer. Assumes nothing.
 use Prim.Native.Nat.{_≤_}
 use mathlib.Core.Path.{sym, _∙_}
 use native.Mathlib.Omega.{arith}
 use borrow.Author.Needs.{needs}
+use Rattle.model.specs.declared.Attributes.{Attributes}
 use Rattle.numbers.proofs.Wrote.{wrote-length}
 use Rattle.transcript.proofs.Theorems.{length-bad}
 use Rattle.player.proofs.Beginning.{lent}
@@ -18,10 +19,12 @@ flush-requires c κs =
 lend-requires : tie.Need-lend-requires
 lend-requires c κs =
     let start = c .before .before .before .before .before .before .before .before .before in
-    let number = c .before .before .before .before .length .given in
-    let n = number .0 .0 in
+    let first = c .before .before .before .before .begun .given in
+    let n = first .0 .0 in
+    let a = start .args .attributes in
+    let own : Attributes = record { kinds = a .kinds; greatest = a .greatest; order = first .0 .1 .0 } in
     let fits : n ≤ 65536 = omega (arith, c .before .before .if1 .left) in
-    (lent n (start .pre .0) (start .pre .1) (sym (c .before .before .before .before .before .before .read-length .ensures) ∙ number .1) fits, fits)
+    (lent own n (start .pre .0) (start .pre .1) (sym (c .before .before .before .before .before .before .read-start .ensures) ∙ first .1) fits, fits)
 
 pub begin-spec : {M : Type 1} → statement M
 begin-spec =

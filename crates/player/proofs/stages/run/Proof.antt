@@ -3,8 +3,8 @@ use mathlib.Core.Path.{refl, _∙_}
 use native.Mathlib.Omega.{arith}
 use lib.ListN.{length}
 use borrow.Author.Needs.{needs}
-use Rattle.numbers.proofs.Theorems.{number-within}
 use Rattle.numbers.proofs.Wrote.{wrote-length}
+use Rattle.log.proofs.Starts as starts
 use Rattle.transcript.proofs.Theorems.{length-pool}
 use Rattle.player.proofs.Beginning.{begun}
 use Rattle.player.proofs.stages.run.Statement.{statement}
@@ -17,11 +17,11 @@ write-text-requires c κs =
     let line = c .before .before .before .before .pool-line .ensures in
     let create = c .before .before .before .before .before .before .before .before .before .before .before .before .create in
     let short = length-pool (length (create .last .0)) (search needs) in
-    let within = number-within (start .args .log .now) (length (start .args .pool .now)) (start .args .start) (lent .number) in (
+    let within = starts.begun (start .args .log .now) _ _ (start .args .start) (lent .first) .inside in (
       record {
         short-log = lent .short-log;
         space = wrote-length line ∙ lent .space;
-        stage = record { place = within .1; few = omega arith; within = omega (arith, line .place, short) };
+        stage = record { place = within; few = omega arith; within = omega (arith, line .place, short) };
         going = refl;
         line = omega (arith, line .place, short);
       },

@@ -72,21 +72,21 @@ grant-at-requires : tie.Need-grant-at-requires Inv-loop μ-loop
 grant-at-requires c κs = fit (c .before .before .before .before .before .before) (c .before .before .before .before .found .given .0 .0) (c .before .before .before .before .found .given .1)
 
 offset-of-requires : tie.Need-offset-of-requires Inv-loop μ-loop
-offset-of-requires c κs = place-small (c .before .before .before .before .before .before .before .before .before .before .before .before .before .before .before .before .before .loop .pool) _ _ (fit (c .before .before .before .before .before .before .before .before .before) (c .before .before .before .before .before .before .before .found .given .0 .0) (c .before .before .before .before .before .before .before .found .given .1))
+offset-of-requires c κs = place-small (c .before .before .before .before .before .before .before .before .before .before .before .before .before .before .before .before .before .before .loop .pool) _ _ (fit (c .before .before .before .before .before .before .before .before .before .before) (c .before .before .before .before .before .before .before .before .found .given .0 .0) (c .before .before .before .before .before .before .before .before .found .given .1))
 
 array-set-from-noted : tie.Need-array-set-from-noted Inv-loop μ-loop
-array-set-from-noted c = omega (arith, spare (c .before .before .before .before .before .before .before .before .before .before .before .before .before), c .before .before .before .before .before .before .before .before .before .before .before .before .before .before .before .before .before .before .loop .inv .1 .places)
+array-set-from-noted c = omega (arith, spare (c .before .before .before .before .before .before .before .before .before .before .before .before .before .before), c .before .before .before .before .before .before .before .before .before .before .before .before .before .before .before .before .before .before .before .loop .inv .1 .places)
 
 loop-again : tie.Need-loop-again Inv-loop μ-loop
 loop-again c =
-    let n = c .before .before .before .before .before .before .before .before .before .before .before .before .before in
+    let n = c .before .before .before .before .before .before .before .before .before .before .before .before .before .before in
     let a = n .before .before .before .before .before in
     let x = a .loop in
-    let p = c .before .before .before .before .before .before .before .before .found .given in
+    let p = c .before .before .before .before .before .before .before .before .before .found .given in
     let z = next a (n .before .if1 .left) in
     let d = used-drop (x .i) (entries a) (x .inv .0) in (
       omega (arith, x .inv .0, length-drop (x .i) (used (entries a)), ap length (d ∙ z)),
-      loop-on (x .inv .1) (this a) (behind a) z (n .need .result) (n .need .ensures) (p .0 .0) (sym (c .before .before .before .before .before .before .before .before .before .before .first-fit .ensures) ∙ p .1) (c .before .before .before .grant-at .last .0) (c .before .before .before .grant-at .ensures) _
+      loop-on (x .inv .1) (this a) (behind a) z (n .need .result) (n .need .ensures) (p .0 .0) (sym (c .before .before .before .before .before .before .before .before .before .before .before .first-fit .ensures) ∙ p .1) (c .before .before .before .before .grant-at .last .0) (c .before .before .before .before .grant-at .ensures) _
           (c .offset-of .result) (c .offset-of .ensures) refl (a .before .before .args .before + (x .i + 1)) (omega arith),
     )
 
@@ -142,9 +142,10 @@ serve-spec =
     (λ c. search needs)
     (λ c. search needs)
     grant-at-requires
+    (λ c. search needs)
     offset-of-requires
-    (λ c. omega (arith, spare (c .before .before .before .before .before .before .before .before .before .before .before .before .before)))
-    (λ c. omega (arith, spare (c .before .before .before .before .before .before .before .before .before .before .before .before .before)))
+    (λ c. omega (arith, spare (c .before .before .before .before .before .before .before .before .before .before .before .before .before .before)))
+    (λ c. omega (arith, spare (c .before .before .before .before .before .before .before .before .before .before .before .before .before .before)))
     array-set-from-noted
     (λ c. omega arith)
     (λ c. omega arith)

@@ -29,7 +29,7 @@ greatest : (c : tie.Else1) → c .before .before .survey .result .greatest ≡ g
 greatest c = ap (λ (x : Surveyed). x .greatest) (c .before .before .survey .ensures) ∙ rw (surveyed c)
 
 kept : (c : tie.Else2) → let a = c .before .before .before .before .before .before .before .args in okAttributes (a .queue .attributes) (length (a .pool .now)) ≡ true
-kept c = sym (c .before .is-valid .ensures) ∙ not-false _ (c .if2 .left)
+kept c = sym (c .before .are-valid .ensures) ∙ not-false _ (c .if2 .left)
 
 queued : (c : tie.Else3)
     → let a = c .before .before .before .before .before .before .before .before .before .before .args in soundQueue (a .queue .attributes) (length (a .pool .now)) (a .queue .entries) ≡ true
@@ -46,7 +46,7 @@ returns c =
 returns-2 : tie.Need-returns-2
 returns-2 c =
     let a = c .before .before .before .before .before .before .before .before .args in
-    c .unsound .ensures ∙ attributes-bad (a .target) (a .pool .now) (a .queue) (sym (c .before .before .is-valid .ensures) ∙ not-true _ (c .before .if2 .taken))
+    c .unsound .ensures ∙ attributes-bad (a .target) (a .pool .now) (a .queue) (sym (c .before .before .are-valid .ensures) ∙ not-true _ (c .before .if2 .taken))
 
 returns-3 : tie.Need-returns-3
 returns-3 c =

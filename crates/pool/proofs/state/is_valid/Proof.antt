@@ -19,7 +19,7 @@ returns-3 c = rw (eq-eqb _ _ (c .before .before .if1 .left), le-leb _ _ (c .befo
 
 returns-4 : tie.Need-returns-4
 unfolding rules
-returns-4 c = let b = c .before in c .is-valid .ensures ∙ rw (eq-eqb _ _ (b .before .before .if1 .left), le-leb _ _ (b .before .if2 .left), le-leb _ _ (b .if3 .left))
+returns-4 c = let b = c .before in c .are-valid .ensures ∙ rw (eq-eqb _ _ (b .before .before .if1 .left), le-leb _ _ (b .before .if2 .left), le-leb _ _ (b .if3 .left))
 
 pub is-valid-spec : {M : Type 1} → statement M
 is-valid-spec = tie.close (tie.spec returns returns-2 returns-3 (λ c κs. tt) returns-4)
