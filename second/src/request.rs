@@ -8,7 +8,7 @@ use crate::log::Start;
 use crate::writer::{write_log, Columns, COLUMNS};
 
 /// The greatest length of a buffer.
-pub const MAX_BUFFER: usize = 65_600;
+pub const MAX_BUFFER: usize = 86_100;
 /// The greatest length of a column.
 pub const MAX_COLUMN: usize = 4_100;
 /// The greatest length of a request.

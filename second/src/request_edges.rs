@@ -13,10 +13,8 @@ const LONG: Row = (GET, u32::MAX, u32::MAX, i32::MAX, 0);
 const LONGEST: Row = (PRIORITY_GET, u32::MAX, u32::MAX, i32::MAX, u32::MAX);
 /// Length of a log of N, with 5 bytes, and 4,096 gets of 16.
 const LONG_LOG: usize = 65_541;
-/// Count of the gets of 21 bytes that a buffer has room for behind N and record
-/// 8, and the length of their log.
-const LONGEST_COUNT: usize = 3_123;
-const LONGEST_LOG: usize = 65_589;
+/// Length of the longest log: N, record 8 and 4,096 gets of 21 bytes.
+const LONGEST_LOG: usize = 86_022;
 
 /// The records of document 01's log, which has 20 bytes.
 const SPECIFIED: [Row; 6] = [
@@ -125,7 +123,7 @@ fn without_records() -> Vec<Request> {
 fn fits() -> Vec<Request> {
     let (fifo, by_priority) = (Start::fifo(u32::MAX), Start::by_priority(u32::MAX));
     let long = [LONG; MAX_RECORDS];
-    let longest = [LONGEST; LONGEST_COUNT];
+    let longest = [LONGEST; MAX_RECORDS];
     [
         around(SPECIFIED_LOG, Start::fifo(64), &SPECIFIED),
         around(LONG_LOG, fifo, &long),
@@ -140,7 +138,7 @@ fn around(len: usize, start: Start, rows: &[Row]) -> [Request; 4] {
 }
 
 /// Counts of records next to the greatest, as ticks of both orders and as the
-/// longest gets that fit.
+/// longest gets.
 fn counts() -> Vec<Request> {
     let counts = [MAX_RECORDS - 1, MAX_RECORDS, MAX_RECORDS + 1, MAX_COLUMN];
     let mut requests = Vec::new();
@@ -150,7 +148,9 @@ fn counts() -> Vec<Request> {
             let lens = [0, count, count + 1, count + 2];
             requests.extend(lens.map(|len| request(len, start, &ticks)));
         }
-        requests.push(request(MAX_BUFFER, Start::fifo(0), &vec![LONG; count]));
+        for row in [LONG, LONGEST] {
+            requests.push(request(MAX_BUFFER, Start::fifo(0), &vec![row; count]));
+        }
     }
     requests
 }

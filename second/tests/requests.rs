@@ -95,7 +95,7 @@ fn malformed_requests() {
 
 #[test]
 fn bounds_of_a_request() {
-    let mut request = request(65_600, 64, &[(5, 0, 0, 0, 0); 4_100]);
+    let mut request = request(86_100, 64, &[(5, 0, 0, 0, 0); 4_100]);
     let bytes = request.to_bytes();
     assert_eq!(bytes.len(), MAX_REQUEST);
     assert!(Request::parse(&bytes).as_ref() == Some(&request));
@@ -104,7 +104,7 @@ fn bounds_of_a_request() {
         longer.columns.resize(column, 4_101);
         assert_malformed(&longer.to_bytes());
     }
-    for buffer_len in [65_601, u32::MAX as usize] {
+    for buffer_len in [86_101, u32::MAX as usize] {
         request.buffer_len = buffer_len;
         assert_malformed(&request.to_bytes());
     }
@@ -311,7 +311,7 @@ fn edge_requests_reach_all() {
     let set = Set::new(edge_requests().into_iter());
     assert_reaches_all(&set, 1);
     assert_reaches_unequal(&set);
-    for len in [65_541, 65_542, 65_589] {
+    for len in [65_541, 65_542, 86_022] {
         let longest = set.count(|_, answer| answer.len == len);
         assert!(longest >= 3, "{len}");
     }

@@ -10,7 +10,7 @@ ghost use lib.ListN.{length};
 // The most places of a column, and bytes of a buffer.
 const MOST_ROWS: usize = 4100;
 
-const LONGEST_BUFFER: usize = 65600;
+const LONGEST_BUFFER: usize = 86100;
 
 // The words before the columns, and the most words and bytes of a request.
 const HEAD: usize = 8;
@@ -118,7 +118,7 @@ fn write_columns(
 
 // The columns stand behind the head.
 fn respond(words: &[u32], limits: &mut [i32], buffer: &mut [u8])
-    requires { ⌜ (4100 ≤ length (now limits)) × (65600 ≤ length (now buffer)) ⌝ }
+    requires { ⌜ (4100 ≤ length (now limits)) × (86100 ≤ length (now buffer)) ⌝ }
 {
     if words.len() < HEAD {
         return;

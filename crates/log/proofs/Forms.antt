@@ -12,7 +12,7 @@ use mir.ValLaws.{toZ-ofZ}
 use lib.Dec.{T}
 use lib.IntN.{ℤ, pos, negsuc, natAbs}
 use lib.Signed.{ltZ, leZ, nonNeg}
-use lib.ListN.{length, take, getD, List·getD-eq-default}
+use lib.ListN.{length, take, getD}
 use borrow.Author.Tests.{le-leb, lt-leb, lt-ltb, ltb-true, eqb-true, ne-eqb}
 use Rattle.numbers.proofs.Decode.{side}
 use Rattle.log.specs.declared.Record.{Record}
@@ -21,7 +21,7 @@ use Rattle.log.specs.declared.Kind.{Kind}
 use Rattle.log.specs.declared.Kind.the-variants as kind
 use Rattle.log.specs.declared.Read.{Read}
 use Rattle.log.specs.declared.Read.the-variants.{Taken, Bad}
-use Rattle.log.specs.Record.{limitBound, limitOf, limitField, isLimit, Limited, fieldsOf, kinds, kindOf, fieldCount, limitedBy, recordFrom}
+use Rattle.log.specs.Record.{limitBound, limitOf, limitField, isLimit, Limited, fieldsOf, kindOf, fieldCount, limitedBy, recordFrom}
 
 -- a limit and its field
 pub limit-none : (field : ℕ) → field ≡ 0 → negsuc 0 ≡ limitOf field

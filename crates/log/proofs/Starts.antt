@@ -1,13 +1,13 @@
 -- Laws of the start of a log: the pool's length and order, read and written. Assumes nothing.
 use Prim.Native.Nat.{ℕ, _+_, _<_, _≤_}
-use mathlib.Core.Path.{_≡_, refl, sym, ap, _∙_}
+use mathlib.Core.Path.{_≡_, refl, sym, _∙_}
 use mathlib.Core.Bool.{true, false}
 use mathlib.Core.List.{List, [], _∷_, _++_, append-assoc, append-nil}
 use native.Mathlib.Omega.{arith}
 use lib.Dec.{eqb}
 use lib.ListN.{length, take, drop, length-append, length-drop}
 use lib.Seq.{take-add, drop-append-seam}
-use borrow.Author.Tests.{eqb-true, eqb-false, eq-eqb, ne-eqb}
+use borrow.Author.Tests.{eqb-true, eq-eqb, ne-eqb}
 use Rattle.model.specs.Limits.{fifo-order, priority-order}
 use Rattle.model.specs.Rules.{okOrder}
 use Rattle.model.proofs.Tests.{by, or-f}
@@ -16,10 +16,9 @@ use Rattle.numbers.specs.declared.Number.the-variants.{Value, Refused}
 use Rattle.numbers.specs.Number.{Bytes, numberBound, numberOf, decode, groups, encode}
 use Rattle.numbers.proofs.Theorems.{number-encode, encode-number, number-small, number-within, encode-length}
 use Rattle.log.specs.declared.Record.{Record}
-use Rattle.log.specs.declared.Start.{Start}
 use Rattle.log.specs.declared.Start.the-variants as start
 use Rattle.log.specs.declared.Read.the-variants.{Taken}
-use Rattle.log.specs.Record.{recordOf, encodeRecord}
+use Rattle.log.specs.Record.{encodeRecord}
 use Rattle.log.specs.Log.{orderMark, startBytes, orderAfter, afterLength, startOf, encodeRecords, AllExpressible}
 use Rattle.log.proofs.Fields.{bytes-drop}
 use Rattle.log.proofs.Records.{source}

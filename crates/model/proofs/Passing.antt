@@ -2,13 +2,12 @@
 use Prim.Native.Nat.{ℕ, _≤_}
 use mathlib.Core.Path.{_≡_, refl, sym, ap, _∙_}
 use mathlib.Core.Bool.{Bool, true, false, not, cond, _&&_}
-use mathlib.Core.List.{List, [], _∷_, _++_, append-assoc}
+use mathlib.Core.List.{List, [], _∷_, _++_}
 use mathlib.Core.Option.{Option, none, some}
-use native.Mathlib.Omega.{arith}
 use lib.Dec.{leb, eqb}
-use lib.IntN.{ℤ, pos}
+use lib.IntN.{ℤ}
 use borrow.Author.Tests.{eqb-true, eqb-false, eq-eqb, ne-eqb}
-use Rattle.model.specs.Limits.{e-ok, waiting, e-rlwai, e-tmout}
+use Rattle.model.specs.Limits.{e-rlwai, e-tmout}
 use Rattle.model.specs.Waiting.{Entry, waits, entryIn, remove, insert, expires, expired, remaining}
 use Rattle.model.specs.Rules.{Rules, Laws, queued}
 use Rattle.model.specs.Calls.{Woken, placeOf, Request, Call, get, release, cancel, tick, inquire, Refusal, entryOf, leaves, leave, Store, State, fitting, given, wakes, serve, sound, goes, tests, act, step}
