@@ -3,17 +3,13 @@
 use std::io;
 
 use crate::compare::{Case, Cases, Difference, Inputs, Logs};
-use crate::hex::to_hex;
 use crate::log::read_log;
+use crate::report::bytes_report;
 use crate::request::Request;
 use crate::request_deal::{columns_of, deal_request};
 use crate::request_edges::edge_requests;
 use crate::rng::Rng;
 use crate::writer::MAX_RECORDS;
-
-/// Bytes of a request, and of a first line, that a report has at most.
-const SHOWN_REQUEST: usize = 1_000;
-const SHOWN_LINE: usize = 60;
 
 /// The edge requests, then dealt ones, then one for each log.
 pub struct Requests {
@@ -54,20 +50,8 @@ impl Cases for Requests {
         }
     }
 
-    /// The report: number, place of the first differing byte, request in hex,
-    /// and both first lines.
     fn report(&self, difference: &Difference) -> String {
-        let (expected, actual) = (&difference.case.expected, &difference.outcome.output);
-        let bytes = expected.iter().zip(actual);
-        format!(
-            "request {} differs at byte {} ({})\nrequest in hex:\n{}\nexpected: {}\nprogram: {}",
-            difference.index,
-            bytes.take_while(|(a, b)| a == b).count(),
-            difference.outcome.status,
-            short_hex(&difference.case.input),
-            first_line(expected),
-            first_line(actual)
-        )
+        bytes_report("request", difference)
     }
 }
 
@@ -96,19 +80,4 @@ pub fn log_case(rng: &mut Rng, log: &[u8]) -> Option<Case> {
         input: request.to_bytes(),
         expected: [line.as_bytes(), log].concat(),
     })
-}
-
-fn short_hex(bytes: &[u8]) -> String {
-    match bytes.len().checked_sub(SHOWN_REQUEST) {
-        None | Some(0) => to_hex(bytes),
-        Some(more) => format!("{} and {more} more bytes", to_hex(&bytes[..SHOWN_REQUEST])),
-    }
-}
-
-/// The start of an output up to its first newline, shortened, as ASCII.
-fn first_line(output: &[u8]) -> String {
-    let line = output.split(|&byte| byte == b'\n').next().unwrap_or(output);
-    line[..line.len().min(SHOWN_LINE)]
-        .escape_ascii()
-        .to_string()
 }

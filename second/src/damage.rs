@@ -24,7 +24,7 @@ pub const BAD_NUMBERS: [&[u8]; 14] = [
 ];
 
 /// Fields in front of a bad number, with the record's kind first.
-const RECORD_STARTS: [&[u8]; 16] = [
+pub const RECORD_STARTS: [&[u8]; 16] = [
     &[],
     &[0x01],
     &[0x01, 0x02],
@@ -43,7 +43,8 @@ const RECORD_STARTS: [&[u8]; 16] = [
     &[0x07, 0x03, 0x04],
 ];
 
-const BAD_KINDS: [&[u8]; 11] = [
+/// Kinds that are unknown, and forms of a kind that are refused.
+pub const BAD_KINDS: [&[u8]; 11] = [
     &[0x00],
     &[0x09],
     &[0x0A],

@@ -7,6 +7,7 @@ use std::process::ExitCode;
 use second::check::check_folder;
 use second::compare::{compare, Cases, Finding, Logs, Texts};
 use second::compare_kinds::KindsCases;
+use second::compare_text::{TextCases, TextLogs};
 use second::compare_write::Requests;
 use second::coverage::Coverage;
 use second::deal::deal;
@@ -15,6 +16,8 @@ use second::kinds_case::{kinds_text, MAX_CASE};
 use second::kinds_deal::deal_case;
 use second::replay::{reasons_text, replay_text, Text, MAX_LOG};
 use second::request::{reply, MAX_REQUEST};
+use second::text_reader::{log_from_text, MAX_TEXT};
+use second::text_writer::{text_from_log, MAX_TEXT_LOG};
 use second::timing::best_times;
 use second::workload::{ticks, workload};
 
@@ -23,6 +26,8 @@ const USAGE: &str = "usage:
   second reasons < LOG
   second kinds < CASE
   second write < REQUEST
+  second log-from-text < TEXT
+  second text-from-log < LOG
   second deal SEED COUNT
   second count SEED COUNT
   second count-kinds SEED COUNT
@@ -30,6 +35,7 @@ const USAGE: &str = "usage:
   second compare-reasons PROGRAM SEED COUNT [LOG_FILE..]
   second compare-kinds PROGRAM SEED COUNT [LOG_FILE..]
   second compare-write PROGRAM SEED COUNT [LOG_FILE..]
+  second compare-text LOG_FROM_TEXT TEXT_FROM_LOG SEED COUNT [LOG_FILE..]
   second check FOLDER [PROGRAM]
   second workload full|small|waiters|mixed|priorities
   second workload ticks BLOCKS WAITERS TICKS
@@ -61,7 +67,9 @@ fn run(arguments: &[String]) -> io::Result<Option<ExitCode>> {
         ["replay"] => write_text(replay_text, MAX_LOG).map(Some),
         ["reasons"] => write_text(reasons_text, MAX_LOG).map(Some),
         ["kinds"] => write_text(kinds_text, MAX_CASE).map(Some),
-        ["write"] => write_reply().map(Some),
+        ["write"] => write_bytes(reply, MAX_REQUEST).map(Some),
+        ["log-from-text"] => write_bytes(log_from_text, MAX_TEXT).map(Some),
+        ["text-from-log"] => write_text(text_from_log, MAX_TEXT_LOG).map(Some),
         ["deal", seed, count] => with_numbers(seed, count, deal_logs),
         ["count", seed, count] => with_numbers(seed, count, count_logs),
         ["count-kinds", seed, count] => with_numbers(seed, count, count_cases),
@@ -69,6 +77,7 @@ fn run(arguments: &[String]) -> io::Result<Option<ExitCode>> {
         ["compare-reasons", rest @ ..] => compare_texts(reasons_text, rest),
         ["compare-kinds", rest @ ..] => compare_with(kinds_texts, rest),
         ["compare-write", rest @ ..] => compare_with(Requests::new, rest),
+        ["compare-text", reader, writer, rest @ ..] => compare_text(reader, writer, rest),
         ["check", folder] => check(folder, None).map(Some),
         ["check", folder, program] => check(folder, Some(Path::new(program))).map(Some),
         ["workload", name] => write_log(workload(name)),
@@ -101,15 +110,13 @@ fn read_input(most: usize) -> io::Result<Vec<u8>> {
 
 /// Writes the text of standard input, which is too long above `most` bytes.
 fn write_text(text: Text, most: usize) -> io::Result<ExitCode> {
-    let input = read_input(most)?;
-    io::stdout().lock().write_all(text(&input).as_bytes())?;
-    Ok(ExitCode::SUCCESS)
+    write_bytes(|input| text(input).into_bytes(), most)
 }
 
-/// Writes the reply to the request on standard input.
-fn write_reply() -> io::Result<ExitCode> {
-    let request = read_input(MAX_REQUEST)?;
-    io::stdout().lock().write_all(&reply(&request))?;
+/// Writes the bytes made of standard input, which is too long above `most` bytes.
+fn write_bytes(made: impl FnOnce(&[u8]) -> Vec<u8>, most: usize) -> io::Result<ExitCode> {
+    let input = read_input(most)?;
+    io::stdout().lock().write_all(&made(&input))?;
     Ok(ExitCode::SUCCESS)
 }
 
@@ -167,24 +174,61 @@ fn compare_with<C: Cases>(
     cases: impl FnOnce(Logs) -> C,
     arguments: &[&str],
 ) -> io::Result<Option<ExitCode>> {
-    let [program, seed, count, files @ ..] = arguments else {
+    let [program, rest @ ..] = arguments else {
+        return Ok(None);
+    };
+    with_logs(rest, |logs| {
+        let cases = cases(logs);
+        tell(find(program, &cases)?)
+    })
+}
+
+/// Compares both programs of the text form; `None` if the arguments are wrong.
+fn compare_text(reader: &str, writer: &str, rest: &[&str]) -> io::Result<Option<ExitCode>> {
+    with_logs(rest, |logs| {
+        let written = Texts {
+            text: text_from_log,
+            inputs: TextLogs::new(logs),
+        };
+        let read = TextCases::new(&written.inputs);
+        tell(match find(writer, &written)? {
+            Ok(logs) => find(reader, &read)?.map(|texts| logs + texts),
+            Err(report) => Err(report),
+        })
+    })
+}
+
+/// Carries out a command on the logs of SEED COUNT [LOG_FILE..].
+fn with_logs(
+    arguments: &[&str],
+    command: impl FnOnce(Logs) -> io::Result<ExitCode>,
+) -> io::Result<Option<ExitCode>> {
+    let [seed, count, files @ ..] = arguments else {
         return Ok(None);
     };
     let files: Vec<PathBuf> = files.iter().map(PathBuf::from).collect();
     with_numbers(seed, count, |seed, count| {
-        compare_cases(Path::new(program), &cases(Logs { seed, count, files }))
+        command(Logs { seed, count, files })
     })
 }
 
-fn compare_cases(program: &Path, cases: &impl Cases) -> io::Result<ExitCode> {
+/// The count of equal cases, or the report of a difference.
+fn find(program: &str, cases: &impl Cases) -> io::Result<Result<u64, String>> {
+    Ok(match compare(Path::new(program), cases)? {
+        Finding::Equal(count) => Ok(count),
+        Finding::Different(difference) => Err(cases.report(&difference)),
+    })
+}
+
+fn tell(found: Result<u64, String>) -> io::Result<ExitCode> {
     let mut out = io::stdout().lock();
-    match compare(program, cases)? {
-        Finding::Equal(count) => {
+    match found {
+        Ok(count) => {
             writeln!(out, "{count} passed, 0 failed")?;
             Ok(ExitCode::SUCCESS)
         }
-        Finding::Different(difference) => {
-            writeln!(out, "{}", cases.report(&difference))?;
+        Err(report) => {
+            writeln!(out, "{report}")?;
             Ok(ExitCode::FAILURE)
         }
     }

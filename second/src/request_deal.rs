@@ -86,7 +86,7 @@ fn any_count(rng: &mut Rng) -> u32 {
 }
 
 /// A number of any length, often the least or the greatest of its length.
-fn any_number(rng: &mut Rng) -> u32 {
+pub fn any_number(rng: &mut Rng) -> u32 {
     if rng.chance(50) {
         rng.pick(&NUMBERS)
     } else {
@@ -94,7 +94,8 @@ fn any_number(rng: &mut Rng) -> u32 {
     }
 }
 
-fn any_record(rng: &mut Rng) -> Record {
+/// A record of any kind with any numbers.
+pub fn any_record(rng: &mut Rng) -> Record {
     let (task, size) = (any_number(rng), any_number(rng));
     match rng.between(GET, PRIORITY_POLL) {
         GET => Record::Get {

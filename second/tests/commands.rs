@@ -6,6 +6,7 @@ use std::os::unix::fs::PermissionsExt;
 use std::path::{Path, PathBuf};
 use std::process::{Command, Output};
 
+use second::compare_text::log_case as text_case;
 use second::compare_write::log_case;
 use second::deal::deal;
 use second::hex::{from_hex, to_hex};
@@ -14,6 +15,10 @@ use second::kinds_edges::edge_cases;
 use second::replay::{reasons_text, replay_text, MAX_LOG};
 use second::request_edges::edge_requests;
 use second::rng::Rng;
+use second::text_edges::edge_texts;
+use second::text_log_edges::edge_logs;
+use second::text_reader::{log_from_text, MAX_TEXT};
+use second::text_writer::{text_from_log, MAX_TEXT_LOG};
 use second::workload::{workload, WORKLOADS};
 
 const SECOND: &str = env!("CARGO_BIN_EXE_second");
@@ -240,6 +245,102 @@ fn compare_write_single_faults(folder: &Path) {
     );
 }
 
+/// A text and its log, refused ones, and inputs of the greatest length and above.
+fn text_form(folder: &Path) {
+    let path = folder.join("input");
+    let made = |command, input: &[u8]| {
+        fs::write(&path, input).expect("input written");
+        on_file(command, &path).stdout
+    };
+    let text = b"pool 64 # bytes\r\nget 1 010 limit 4\ntick";
+    let log = b"\x40\x01\x01\x0A\x05\x05";
+    assert_eq!(made("log-from-text", text), log);
+    let canonical = b"pool 64\nget 1 10 limit 4\ntick\n";
+    assert_eq!(made("text-from-log", log), canonical);
+    let refused = b"line 2: missing number\n";
+    assert_eq!(made("log-from-text", b"pool 64\nget 1"), refused);
+    assert_eq!(made("text-from-log", &log[..3]), b"bad log at 1\n");
+    let mut long = b"pool 64\ntick".to_vec();
+    long.resize(MAX_TEXT, b'\n');
+    assert_eq!(made("log-from-text", &long), b"\x40\x05");
+    long.push(b'\n');
+    assert_eq!(made("log-from-text", &long), b"text too long\n");
+    let ticks = vec![5; MAX_TEXT_LOG + 1];
+    let more = b"more than 4,096 records\n";
+    assert_eq!(made("text-from-log", &ticks[1..]), more);
+    assert_eq!(made("text-from-log", &ticks), b"log too long\n");
+    assert_eq!(second(&["log-from-text", "1"]).status.code(), Some(2));
+    assert_eq!(second(&["text-from-log", "1"]).status.code(), Some(2));
+}
+
+/// Both programs of the text form.
+fn text_programs(folder: &Path) -> [String; 2] {
+    ["log-from-text", "text-from-log"]
+        .map(|command| script(folder, command, &format!("exec '{SECOND}' {command}")))
+}
+
+fn compare_text_equal(folder: &Path) {
+    let [reader, writer] = text_programs(folder);
+    let [extra, cut] = ["extra.log", "cut.log"].map(|name| folder.join(name).display().to_string());
+    let output = second(&["compare-text", &reader, &writer, "1", "40", &extra, &cut]);
+    let logs: Vec<Vec<u8>> = edge_logs()
+        .into_iter()
+        .chain((0..40).map(|index| deal(1, index)))
+        .collect();
+    let again = logs.iter().filter_map(|log| text_case(log.clone())).count();
+    let total = edge_texts().len() + 40 + again + 1 + logs.len() + 2;
+    assert_eq!(stdout(&output), format!("{total} passed, 0 failed\n"));
+    assert_eq!(output.status.code(), Some(0));
+    for wrong in [
+        &["compare-text"][..],
+        &["compare-text", &reader, &writer],
+        &["compare-text", &reader, &writer, "1"],
+        &["compare-text", &reader, &writer, "1", "x"],
+        &["compare-text", &reader, "1", "0", &extra],
+        &["compare-text", "/missing", &writer, "1", "0"],
+    ] {
+        assert_eq!(second(wrong).status.code(), Some(2), "{wrong:?}");
+    }
+}
+
+/// The report of a pair of programs of which one differs.
+fn report_of_text(reader: &str, writer: &str, rest: &[&str]) -> String {
+    let output = second(&[&["compare-text", reader, writer, "1"], rest].concat());
+    assert_eq!(output.status.code(), Some(1));
+    stdout(&output)
+}
+
+/// A reader with a wrong reason, and a writer with a wrong word.
+fn compare_text_different(folder: &Path) {
+    let [reader, writer] = text_programs(folder);
+    let body =
+        format!("'{SECOND}' log-from-text | LC_ALL=C sed 's/: number too large/: missing number/'");
+    let bad = script(folder, "no_large", &body);
+    let report = report_of_text(&bad, &writer, &["0"]);
+    let texts = edge_texts();
+    let large = |text: &Vec<u8>| log_from_text(text).ends_with(b": number too large\n");
+    let first = texts.iter().position(large).expect("some are refused");
+    let hex = to_hex(&texts[first]);
+    let expected = format!(
+        "text {first} differs at byte 8 (exit status: 0)\ntext in hex:\n{hex}\n\
+         expected: line 1: number too large\nprogram: line 1: missing number\n"
+    );
+    assert_eq!(report, expected);
+    let body = format!("'{SECOND}' text-from-log | sed 's/^\\(poll .* \\)priority/\\1limit/'");
+    let bad = script(folder, "no_poll", &body);
+    let report = report_of_text(&reader, &bad, &["0"]);
+    let logs = edge_logs();
+    let polls = |log: &Vec<u8>| {
+        let text = text_from_log(log);
+        let mut lines = text.lines();
+        lines.any(|line| line.starts_with("poll") && line.contains("priority"))
+    };
+    let first = logs.iter().position(polls).expect("some polls");
+    let start = format!("log {first} differs at line ");
+    assert!(report.starts_with(&start), "{report}");
+    assert!(report.contains(&to_hex(&logs[first])));
+}
+
 fn compare_different(folder: &Path) {
     let body = format!("'{SECOND}' replay | sed 's/^w \\([0-9]*\\) -49/w \\1 -50/'");
     let bad = script(folder, "bad", &body);
@@ -286,7 +387,7 @@ fn check_stored(folder: &Path) {
     assert_eq!(second(&["check", &path]).status.code(), Some(2));
     for index in 0..3 {
         let log = deal(3, index);
-        fs::write(stored.join(format!("{index}.txt")), replay_text(&log)).expect("text written");
+        fs::write(stored.join(format!("{index}.out")), replay_text(&log)).expect("text written");
         fs::write(stored.join(format!("{index}.log")), log).expect("log written");
     }
     let good = folder.join("good").display().to_string();
@@ -294,11 +395,42 @@ fn check_stored(folder: &Path) {
     assert_eq!(stdout(&output), "3 passed, 0 failed\n");
     let silent = folder.join("silent").display().to_string();
     assert_eq!(second(&["check", &path, &silent]).status.code(), Some(1));
-    fs::write(stored.join("1.txt"), "pool 64\n").expect("text written");
-    fs::remove_file(stored.join("2.txt")).expect("text removed");
+    fs::write(stored.join("1.out"), "pool 64\n").expect("text written");
+    fs::remove_file(stored.join("2.out")).expect("text removed");
     let output = second(&["check", &path]);
     assert!(stdout(&output).ends_with("1 passed, 2 failed\n"));
     assert_eq!(output.status.code(), Some(1));
+}
+
+/// Stored logs with their text forms: a good one, one that gives another log,
+/// refused ones, and none.
+fn check_text_forms(folder: &Path) {
+    let stored = folder.join("text_forms");
+    fs::create_dir_all(&stored).expect("folder made");
+    let write = |name: &str, bytes: &[u8]| fs::write(stored.join(name), bytes).expect("written");
+    for name in ["a", "b", "c"] {
+        write(&format!("{name}.log"), b"\x40\x03\x08");
+        write(&format!("{name}.out"), b"pool 64\n-17 0\nend 1 records\n");
+    }
+    write("b.txt", b"pool 64 # comment\n\nrelease 08");
+    write("other.txt", b"not looked at");
+    let path = stored.display().to_string();
+    let good = folder.join("good").display().to_string();
+    for arguments in [&["check", &path][..], &["check", &path, &good]] {
+        assert_eq!(stdout(&second(arguments)), "3 passed, 0 failed\n");
+    }
+    for (text, fault) in [
+        (&b"pool 64\nrelease 9"[..], "gives another log"),
+        (b"pool 64\nrelease", "line 2: missing number"),
+        (b"", "line 1: no pool line"),
+        (&vec![b'#'; MAX_TEXT + 1], "text too long"),
+    ] {
+        write("c.txt", text);
+        let output = second(&["check", &path]);
+        let expected = format!("{path}/c.txt: {fault}\n2 passed, 1 failed\n");
+        assert_eq!(stdout(&output), expected);
+        assert_eq!(output.status.code(), Some(1));
+    }
 }
 
 fn deal_and_count() {
@@ -373,7 +505,11 @@ fn commands() {
     compare_write_equal(&folder);
     compare_write_different(&folder);
     compare_write_single_faults(&folder);
+    text_form(&folder);
+    compare_text_equal(&folder);
+    compare_text_different(&folder);
     check_stored(&folder);
+    check_text_forms(&folder);
     deal_and_count();
     workloads();
     time_programs(&folder);

@@ -38,7 +38,7 @@ unfolding limitOf limitField
 limit-field (pos n) h = (refl, omega (arith, ltb-true n limitBound h))
 limit-field (negsuc n) h = (rw (eqb-true n 0 h), omega arith)
 
-field-limit : (field : ℕ) → field ≤ limitBound → (limitField (limitOf field) ≡ field) × (isLimit (limitOf field) ≡ true)
+pub field-limit : (field : ℕ) → field ≤ limitBound → (limitField (limitOf field) ≡ field) × (isLimit (limitOf field) ≡ true)
 unfolding limitOf limitField
 field-limit zero h = (refl, refl)
 field-limit (suc n) h = (refl, lt-ltb n limitBound (omega arith))

@@ -28,10 +28,17 @@ pub record Reading (s : List ℕ) (k : Kind) (count : ℕ) (fs : List ℕ) (at i
   pub size : length fs ≡ 4
   pub zeros : (j : ℕ) → i ≤ j → getD fs j 0 ≡ 0
 
-getD-zeros : (n j : ℕ) → _≡_ {A = ℕ} (getD (replicate n 0) j 0) 0
+pub getD-zeros : (n j : ℕ) → _≡_ {A = ℕ} (getD (replicate n 0) j 0) 0
 getD-zeros zero j = refl
 getD-zeros (suc n) zero = refl
 getD-zeros (suc n) (suc j) = getD-zeros n j
+
+-- the first i elements, where the others are zeros
+pub getD-taken : (fs : List ℕ) (i : ℕ) → ((j : ℕ) → i ≤ j → getD fs j 0 ≡ 0) → (j : ℕ) → getD (take i fs) j 0 ≡ getD fs j 0
+getD-taken fs i zeros j = ⊎-elim (getD-take i fs j 0) past (side j i)
+  where
+    past : i ≤ j → getD (take i fs) j 0 ≡ getD fs j 0
+    past h = List·getD-eq-default (take i fs) 0 (rw (length-take i fs) (omega arith)) ∙ sym (zeros j h)
 
 -- the list of the part &s[a..]
 pub suffix : (a : ℕ) (s : List ℕ) → take (length s - a) (drop a s) ≡ drop a s
@@ -82,10 +89,7 @@ module _ {s : List ℕ} {k : Kind} {count : ℕ} {fs : List ℕ} {at i : ℕ} (g
   }
 
   taken : (j : ℕ) → getD (take i fs) j 0 ≡ getD fs j 0
-  taken j = ⊎-elim (getD-take i fs j 0) past (side j i)
-    where
-      past : i ≤ j → getD (take i fs) j 0 ≡ getD fs j 0
-      past h = List·getD-eq-default (take i fs) 0 (rw (length-take i fs) (omega arith)) ∙ sym (g .zeros j h)
+  taken = getD-taken fs i (g .zeros)
 
   pub reading-done : count ≤ i → recordFrom k (getD fs 0 0) (getD fs 1 0) (getD fs 2 0) (getD fs 3 0) at ≡ recordOf s
   unfolding readFields

@@ -114,6 +114,20 @@ module _ (c : Columns) where
 
 -- ---- the columns of records
 
+-- the row of a record has the record's numbers
+numbers-row : (r : Record) → numbersOf (rowOf r) ≡ fieldsOf r
+unfolding fieldsOf
+numbers-row (Get task size limit) = refl
+numbers-row (Poll task size) = refl
+numbers-row (Release offset) = refl
+numbers-row (Cancel task) = refl
+numbers-row Tick = refl
+numbers-row (PriorityGet task size limit priority) = refl
+numbers-row (PriorityPoll task size priority) = refl
+
+pub row-record : (w : Row) (r : Record) → w ≡ rowOf r → numbersOf w ≡ fieldsOf r
+row-record w r e = rw e (numbers-row r)
+
 given-row : (r : Record) → Limited r → given (rowOf r) ≡ some r
 given-row (Get task size limit) h = rw h
 given-row (Poll task size) h = refl

@@ -200,7 +200,7 @@ module _ {n order : ℕ} {c : Columns} {m : ℕ} (g : Measured n order c m) (buf
   pub write-short : length buf < m → outcome (refusal e-nomem) buf ≡ writeLog n order c buf
   write-short h = rw (g .same, ← g .size, lt-leb m (length buf) h)
 
-  pub start-fits : m ≤ length buf → length (startBytes n order) ≤ length buf
+  pub start-fits : m ≤ length buf → 0 + length (startBytes n order) ≤ length buf
   start-fits h = omega (arith, h, g .size)
 
   module _ (fits : m ≤ length buf) {after : List ℕ} {start : ℕ} (number : Wrote buf 0 (startBytes n order) after start) where

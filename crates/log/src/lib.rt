@@ -161,7 +161,7 @@ fn record_from(kind: Kind, a: u32, b: u32, c: u32, d: u32, after: usize) -> Read
 }
 
 // The limit of a get, from its field.
-fn limit_of(field: u32) -> i32
+pub fn limit_of(field: u32) -> i32
     requires { ⌜ field ≤ limitBound ⌝ }
     ensures { λ r. ⌜ r ≡ limitOf field ⌝ }
 {

@@ -1,5 +1,6 @@
 // The log writer: a pool's length and order and records, given in columns, are written into a lent buffer.
 use crate::Kind;
+use crate::Record;
 use model::E_NOMEM;
 use model::E_PAR;
 use model::FIFO_ORDER;
@@ -9,8 +10,8 @@ ghost use Prim.Native.Nat.{_+_, _≤_, _<_};
 ghost use lib.ListN.{length};
 ghost use Rattle.numbers.specs.Wrote.{Wrote};
 ghost use Rattle.log.specs.Fields.{encodeFields};
-ghost use Rattle.log.specs.Record.{limitField};
-ghost use Rattle.log.specs.Writer.{given, columns, level, rowAt, outcome, refusal, writeLog};
+ghost use Rattle.log.specs.Record.{limitField, encodeRecord};
+ghost use Rattle.log.specs.Writer.{given, row, rowOf, columns, level, rowAt, outcome, refusal, writeLog};
 ghost use Rattle.log.specs.Log.{startBytes};
 ghost use Rattle.log.specs.Steps.{Level, Started, isSome, neededFor, thirdOf, numbersOf, Holds, Counted, rowsBytes};
 
@@ -68,7 +69,7 @@ pub fn write_log(
     if buf.len() < length {
         return refuse(E_NOMEM);
     }
-    let start = write_start(buf, n, order);
+    let start = write_start(buf, 0, n, order);
     let end = write_rows(buf, start, kinds, firsts, seconds, limits, priorities);
     Written {
         code: 0,
@@ -146,16 +147,16 @@ fn start_length(n: u32, order: u16) -> usize
     length
 }
 
-// Writes the start of a log, and answers the place after it.
-fn write_start(buf: &mut [u8], n: u32, order: u16) -> usize
-    requires { ⌜ length (startBytes n order) ≤ length (now buf) ⌝ }
-    ensures { λ r. ⌜ Wrote (now (buf .entry)) 0 (startBytes n order) (now (buf .exit)) r ⌝ }
+// Writes the start of a log from the place `at` of buf on, and answers the place after it.
+pub fn write_start(buf: &mut [u8], at: usize, n: u32, order: u16) -> usize
+    requires { ⌜ at + length (startBytes n order) ≤ length (now buf) ⌝ }
+    ensures { λ r. ⌜ Wrote (now (buf .entry)) at (startBytes n order) (now (buf .exit)) r ⌝ }
 {
-    let at = numbers::write_number(buf, 0, n);
+    let next = numbers::write_number(buf, at, n);
     if order == PRIORITY_ORDER {
-        return numbers::write_number(buf, at, crate::ORDER_MARK);
+        return numbers::write_number(buf, next, crate::ORDER_MARK);
     }
-    at
+    next
 }
 
 // Writes the records from the place `start` of buf on, and answers the place after them.
@@ -258,7 +259,7 @@ fn third_of(kind: Kind, row: Row) -> u32
 }
 
 // The field of a get's limit: the limit plus 1.
-fn limit_field(limit: i32) -> u32
+pub fn limit_field(limit: i32) -> u32
     ensures { λ r. ⌜ r ≡ limitField limit ⌝ }
 {
     if limit < 0 {
@@ -286,6 +287,47 @@ fn write_row(buf: &mut [u8], start: usize, row: Row) -> usize
     let values = numbers.values;
     let count = numbers.count;
     write_numbers(buf, start, &values[0..count])
+}
+
+// Writes a record from the place `at` of buf on, and answers the place after it.
+pub fn write_record(buf: &mut [u8], at: usize, item: Record) -> usize
+    requires { ⌜ at + length (encodeRecord item) ≤ length (now buf) ⌝ }
+    ensures { λ r. ⌜ Wrote (now (buf .entry)) at (encodeRecord item) (now (buf .exit)) r ⌝ }
+{
+    let row = row_of(item);
+    write_row(buf, at, row)
+}
+
+fn row_of(item: Record) -> Row
+    ensures { λ r. ⌜ r ≡ rowOf item ⌝ }
+{
+    match item {
+        Record::Get(task, size, limit) => make_row(1, task, size, limit, 0),
+        Record::Poll(task, size) => make_row(2, task, size, 0, 0),
+        Record::Release(offset) => make_row(3, offset, 0, 0, 0),
+        Record::Cancel(task) => make_row(4, task, 0, 0, 0),
+        Record::Tick => make_row(5, 0, 0, 0, 0),
+        Record::PriorityGet(task, size, limit, priority) => make_row(
+            6,
+            task,
+            size,
+            limit,
+            priority,
+        ),
+        Record::PriorityPoll(task, size, priority) => make_row(7, task, size, 0, priority),
+    }
+}
+
+fn make_row(kind: u32, first: u32, second: u32, limit: i32, priority: u32) -> Row
+    ensures { λ r. ⌜ r ≡ row kind first second limit priority ⌝ }
+{
+    Row {
+        kind: kind,
+        first: first,
+        second: second,
+        limit: limit,
+        priority: priority,
+    }
 }
 
 // How many bytes the numbers have.

@@ -1,8 +1,8 @@
 -- Laws of what a function that writes bytes leaves in a lent buffer. Assumes nothing.
 use Prim.Native.Nat.{ℕ, suc, _+_, _<_, _≤_}
-use mathlib.Core.Path.{_≡_, refl, ap, _∙_}
+use mathlib.Core.Path.{_≡_, refl, sym, ap, _∙_}
 use mathlib.Core.List.{List, [], _∷_, _++_}
-use native.Mathlib.Nat.{add-zero, add-suc, suc-add}
+use native.Mathlib.Nat.{add-zero, zero-add, add-suc, suc-add}
 use native.Mathlib.Omega.{arith}
 use lib.ListN.{length, take, drop, set, length-append}
 use lib.Seq.{sets, sets-eq, length-sets}
@@ -25,6 +25,9 @@ wrote-none buf at bytes h = rw (fitted-none buf at bytes h) (record { place = om
 pub wrote-parts : {before after : List ℕ} {at next : ℕ} {bytes : List ℕ} → Wrote before at bytes after next → at + length bytes ≤ length before
     → after ≡ take at before ++ bytes ++ drop (at + length bytes) before
 wrote-parts {before} {after} {at} {next} {bytes} w h = w .stored ∙ sets-eq bytes before at h
+
+pub wrote-start : (bytes buf : List ℕ) → length bytes ≤ length buf → Wrote buf 0 bytes (bytes ++ drop (length bytes) buf) (length bytes)
+wrote-start bytes buf h = record { place = sym (zero-add (length bytes)); stored = sym (sets-eq bytes buf 0 (omega arith) ∙ rw (zero-add (length bytes))) }
 
 -- a write keeps the buffer's length
 pub wrote-length : {before after : List ℕ} {at next : ℕ} {bytes : List ℕ} → Wrote before at bytes after next → length after ≡ length before

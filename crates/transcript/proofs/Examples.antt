@@ -14,7 +14,8 @@ use Rattle.numbers.specs.Number.{decode}
 use Rattle.log.specs.Fields.{readFields}
 use Rattle.log.specs.Record.{limitOf, recordOf}
 use Rattle.log.specs.Log.{startOf}
-use Rattle.transcript.specs.Text.{digits, decimal, signed}
+use Rattle.text.specs.Decimal.{digits, decimal}
+use Rattle.transcript.specs.Lines.{signed}
 use Rattle.transcript.specs.Transcript.{wokenText, answerText, recordsText, poolText, transcriptOf}
 
 zero : decimal 0 ≡ 48 ∷ []

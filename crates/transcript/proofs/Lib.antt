@@ -1,6 +1,4 @@
-pub mod Decimal
 pub mod Sign
 pub mod Lines
 pub mod Theorems
 pub mod Examples
-pub mod Writing

@@ -8,9 +8,9 @@ use lib.Dec.{leb}
 use lib.IntN.{ℤ, pos, negsuc}
 use borrow.Author.Tests.{leb-true, ne-eqb}
 use Rattle.model.proofs.Tests.{and-l, and-r}
-use Rattle.transcript.specs.Text.{decimal, signed, allDigits}
-use Rattle.transcript.specs.Lines.{isLine}
-use Rattle.transcript.proofs.Decimal.{decimal-digits}
+use Rattle.text.specs.Decimal.{decimal, allDigits}
+use Rattle.transcript.specs.Lines.{signed, isLine}
+use Rattle.text.proofs.Decimal.{decimal-digits}
 
 line-digits : (s t : List ℕ) → allDigits s ≡ true → isLine (s ++ t) ≡ isLine t
 unfolding allDigits isLine

@@ -13,8 +13,9 @@ use lib.IntN.{ℤ, pos, negsuc, natAbs, _-ℤ_}
 use lib.ListN.{length}
 use lib.Signed.{ltZ, nonNeg}
 use borrow.Author.Tests.{ltb-true}
-use Rattle.transcript.specs.Text.{decimal, signed}
-use Rattle.transcript.proofs.Decimal.{length-half}
+use Rattle.text.specs.Decimal.{decimal}
+use Rattle.transcript.specs.Lines.{signed}
+use Rattle.text.proofs.Decimal.{length-half}
 
 pub signed-length : (z : ℤ) → SFits w32 z → length (signed z) ≤ 11
 signed-length (pos n) f = omega (arith, length-half n (omega (arith, f .sfits)))

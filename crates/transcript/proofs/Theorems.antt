@@ -1,5 +1,5 @@
--- The theorems of decimal text, of the lines, and of the text of a log. Assumes nothing.
-use Prim.Native.Nat.{ℕ, zero, suc, _+_, _-_, _<_, _≤_, _%_, _/_}
+-- The theorems of integers in text, of the lines, and of the text of a log. Assumes nothing.
+use Prim.Native.Nat.{ℕ, zero, suc, _+_, _-_, _<_, _≤_}
 use mathlib.Core.Path.{_≡_, refl, sym, ap, _∙_}
 use mathlib.Core.Bool.{true, false, cond}
 use mathlib.Core.List.{List, [], _∷_, _++_, append-assoc}
@@ -8,7 +8,7 @@ use native.Mathlib.Omega.{arith}
 use mir.Syntax.{w32}
 use mir.Val.{SFits}
 use lib.IntN.{ℤ, pos, negsuc}
-use lib.ListN.{length, drop, getD, length-append, length-replicate}
+use lib.ListN.{length, drop, length-append, length-replicate}
 use lib.Seq.{drop-append-seam}
 use borrow.Author.Tests.{le-leb, lt-leb}
 use Rattle.model.specs.Limits.{e-ok, e-par}
@@ -25,34 +25,15 @@ use Rattle.log.specs.Record.{recordOf, encodeRecord}
 use Rattle.log.specs.Log.{startBytes, startOf, encodeRecords, logOf, AllExpressible}
 use Rattle.log.proofs.Theorems.{record-encode, record-length}
 use Rattle.log.proofs.Starts.{start-encode}
-use Rattle.transcript.specs.Text.{digit, digits, decimal, signed, valueFrom, valueOf, allDigits}
-use Rattle.transcript.specs.Lines.{poolLine, answerLine, wokenLine, endLine, badLine, refusedLine, tooLongLine, longestAnswer, longestLine, isLine}
+use Rattle.text.specs.Decimal.{digits, decimal, allDigits}
+use Rattle.transcript.specs.Lines.{signed, poolLine, answerLine, wokenLine, endLine, badLine, refusedLine, tooLongLine, longestAnswer, longestLine, isLine}
 use Rattle.transcript.specs.Transcript.{longestLog, callOf, answerText, recordsText, freshPool, withOrder, poolText, transcriptOf, callsOf, turnsText}
-use Rattle.transcript.proofs.Decimal.{decimal-ind, decimal-digits, length-word, length-half, value-append}
+use Rattle.text.proofs.Decimal.{decimal-digits, length-word, length-half}
+use Rattle.text.proofs.Theorems.{decimal-injective}
 use Rattle.transcript.proofs.Sign.{signed-length}
 use Rattle.transcript.proofs.Lines.{line-decimal, line-signed}
 
--- ---- decimal text
-
--- it is never empty
-pub decimal-some : (n : ℕ) → 1 ≤ length (decimal n)
-decimal-some = decimal-ind (λ n s. 1 ≤ length s) (λ n h. omega arith) (λ n s h ih. simp length-append (omega arith))
-
--- no leading zero, but for 0 itself
-pub decimal-first : (n : ℕ) → 0 < n → digit 0 < getD (decimal n) 0 0
-decimal-first = decimal-ind (λ n s. 0 < n → digit 0 < getD s 0 0) (λ n h l. omega arith) next
-  where
-    next : (n : ℕ) (s : List ℕ) → 10 ≤ n → (0 < n / 10 → digit 0 < getD s 0 0) → 0 < n → digit 0 < getD (s ++ (digit (n % 10) ∷ [])) 0 0
-    next n [] h ih l = absurd (omega (arith, ih (omega arith)))
-    next n (b ∷ s) h ih l = ih (omega arith)
-
--- it reads back to the number
-pub value-decimal : (n : ℕ) → valueOf (decimal n) ≡ n
-unfolding valueFrom
-value-decimal = decimal-ind (λ n s. valueOf s ≡ n) (λ n h. omega arith) (λ n s h ih. value-append 0 s (n % 10) ∙ omega arith)
-
-pub decimal-injective : (m n : ℕ) → decimal m ≡ decimal n → m ≡ n
-decimal-injective m n e = sym (value-decimal m) ∙ ap valueOf e ∙ value-decimal n
+-- ---- integers
 
 minus-decimal : {A : Type 0} (m n : ℕ) → 45 ∷ decimal m ≡ decimal n → A
 unfolding allDigits

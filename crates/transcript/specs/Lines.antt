@@ -1,15 +1,16 @@
 -- The lines of the text, each with the newline that ends it.
-use Prim.Native.Nat.{ℕ}
+use Prim.Native.Nat.{ℕ, suc}
 use mathlib.Core.List.{List, [], _∷_, _++_}
 use mathlib.Core.Bool.{Bool, false, cond}
 use lib.Dec.{eqb}
-use lib.IntN.{ℤ}
+use lib.IntN.{ℤ, pos, negsuc}
 use lib.ListN.{length}
-use Rattle.transcript.specs.Text.{decimal, signed}
+use Rattle.text.specs.Decimal.{decimal, around}
 
--- a number between two texts
-abbrev pub around : List ℕ → ℕ → List ℕ → List ℕ
-around a n b = a ++ (decimal n ++ b)
+-- an integer, with a minus sign where it is negative
+abbrev pub signed : ℤ → List ℕ
+signed (pos n) = decimal n
+signed (negsuc n) = 45 ∷ decimal (suc n)
 
 -- `pool N`
 abbrev pub poolLine : ℕ → List ℕ

@@ -5,7 +5,7 @@ use mir.ValLaws.{toZ-ofZ}
 use lib.ListN.{length-append}
 use borrow.Author.Needs.{needs}
 use Rattle.numbers.proofs.Wrote.{wrote-append}
-use Rattle.transcript.proofs.Decimal.{length-half}
+use Rattle.text.proofs.Decimal.{length-half}
 use Rattle.transcript.proofs.woken_line.Statement.{statement}
 use Rattle.transcript.proofs.woken_line.Tie as tie
 

@@ -1,0 +1,4 @@
+pub mod Taking
+pub mod Calls
+pub mod Filling
+pub mod Limiting

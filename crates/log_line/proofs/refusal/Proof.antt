@@ -1,0 +1,16 @@
+-- `refusal` meets its contract. Assumes nothing.
+use borrow.Author.Needs.{needs}
+use Rattle.log_line.proofs.refusal.Statement.{statement}
+use Rattle.log_line.proofs.refusal.Tie as tie
+
+returns-2 : tie.Need-returns-2
+returns-2 c = rw (c .before .read .given .1)
+
+pub refusal-spec : {M : Type 1} → statement M
+refusal-spec =
+    tie.close
+    (tie.spec
+    (λ c. search needs)
+    (λ c. search needs)
+    (λ c. search needs)
+    returns-2)

@@ -1,0 +1,5 @@
+pub mod Growing
+pub mod Measuring
+pub mod Storing
+pub mod Responding
+pub mod Theorems

@@ -1,0 +1,3 @@
+pub mod Parser
+pub mod Steps
+pub mod Response

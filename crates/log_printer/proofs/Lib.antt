@@ -1,0 +1,6 @@
+pub mod Lines
+pub mod Records
+pub mod Measuring
+pub mod Putting
+pub mod Printing
+pub mod Responding

@@ -1,0 +1,11 @@
+pub mod Slots
+pub mod Bounds
+pub mod Lines
+pub mod Widths
+pub mod Records
+pub mod Joining
+pub mod Reading
+pub mod Canonical
+pub mod Reprinting
+pub mod Theorems
+pub mod Examples

@@ -1,0 +1,60 @@
+-- The words of the text form of a log, and what stands behind each.
+use Prim.Native.Nat.{ℕ, _<_, _≤_}
+use mathlib.Core.List.{List, [], _∷_}
+use lib.ListN.{length, getD}
+use Rattle.log_text.specs.declared.Keyword.{Keyword}
+use Rattle.log_text.specs.declared.Keyword.the-variants.{Pool, Get, Poll, Release, Cancel, Tick, Unknown}
+use Rattle.log_text.specs.declared.Slot.{Slot}
+use Rattle.log_text.specs.declared.Slot.the-variants.{Number, Limit, Priority, Order}
+
+-- the words, in ASCII
+abbrev pub keywordText : Keyword → List ℕ
+-- pool
+keywordText Pool = 112 ∷ 111 ∷ 111 ∷ 108 ∷ []
+-- get
+keywordText Get = 103 ∷ 101 ∷ 116 ∷ []
+-- poll
+keywordText Poll = 112 ∷ 111 ∷ 108 ∷ 108 ∷ []
+-- release
+keywordText Release = 114 ∷ 101 ∷ 108 ∷ 101 ∷ 97 ∷ 115 ∷ 101 ∷ []
+-- cancel
+keywordText Cancel = 99 ∷ 97 ∷ 110 ∷ 99 ∷ 101 ∷ 108 ∷ []
+-- tick
+keywordText Tick = 116 ∷ 105 ∷ 99 ∷ 107 ∷ []
+keywordText Unknown = []
+
+-- limit
+abbrev pub limitText : List ℕ
+limitText = 108 ∷ 105 ∷ 109 ∷ 105 ∷ 116 ∷ []
+
+-- priority
+abbrev pub priorityText : List ℕ
+priorityText = 112 ∷ 114 ∷ 105 ∷ 111 ∷ 114 ∷ 105 ∷ 116 ∷ 121 ∷ []
+
+-- what stands behind the first word of a line, in this order
+abbrev pub form : Keyword → List Slot
+form Pool = Number ∷ Order ∷ []
+form Get = Number ∷ Number ∷ Limit ∷ Priority ∷ []
+form Poll = Number ∷ Number ∷ Priority ∷ []
+form Release = Number ∷ []
+form Cancel = Number ∷ []
+form Tick = []
+form Unknown = []
+
+-- the greatest number, and the greatest limit
+abbrev pub numberMost : ℕ
+numberMost = 4294967295
+
+abbrev pub limitMost : ℕ
+limitMost = 2147483647
+
+-- the greatest argument of a slot
+abbrev pub slotMost : Slot → ℕ
+slotMost Number = numberMost
+slotMost Limit = 2147483648
+slotMost Priority = 4294967296
+slotMost Order = 1
+
+-- each slot has an argument that it can have
+pub record Bounded (ss : List Slot) (vs : List ℕ) : Type 0 where
+  pub most : (i : ℕ) → i < length ss → getD vs i 0 ≤ slotMost (getD ss i Number)
