@@ -1,5 +1,7 @@
 // Reads a text from standard input, and writes the log that it says to standard output, or the line that is refused.
 use log_parser::response;
+use log_text::LONGEST_LOG;
+use log_text::LONGEST_TEXT;
 
 fn convert(text: &mut [u8], log: &mut [u8]) {
     let n = io::read_full(0, text);
@@ -7,9 +9,9 @@ fn convert(text: &mut [u8], log: &mut [u8]) {
     io::write_all(1, &log[..length]);
 }
 
-// A text of more than 1,048,576 bytes is too long.
+// One byte more than the longest text is read, so that a longer one is known.
 fn main() {
-    let mut text = [0u8; 1048577];
-    let mut log = [0u8; 86022];
+    let mut text = [0u8; LONGEST_TEXT + 1];
+    let mut log = [0u8; LONGEST_LOG];
     convert(&mut text, &mut log);
 }

@@ -1,13 +1,11 @@
 // What the program writes for a text.
 use crate::Parsed;
+use log_text::LONGEST_LOG;
 use log_text::Why;
 ghost use Prim.Native.Nat.{_+_, _≤_};
 ghost use lib.ListN.{length};
 ghost use Rattle.numbers.specs.Wrote.{Wrote};
 ghost use Rattle.log_parser.specs.Response.{whyText, refusedLine, Responded};
-
-// No log that a text says has more bytes.
-pub const LONGEST_LOG: usize = 86022;
 
 // Writes the log that a text says, or one line that says why there is none, at the start of buf, and answers the place after it. Where buf has fewer than
 // LONGEST_LOG bytes, nothing is written.

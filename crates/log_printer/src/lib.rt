@@ -4,6 +4,7 @@ use log::Record;
 use log::Start;
 use log::writer::MOST_RECORDS;
 use log_text::Keyword;
+use log_text::LONGEST_LOG;
 use log_text::Parts;
 use log_text::Slot;
 ghost use Prim.Native.Nat.{_+_, _≤_};
@@ -18,9 +19,6 @@ ghost use Rattle.log_printer.specs.Printer.{outcome, printLog};
 ghost use Rattle.log_printer.specs.Steps.{measured, stopped, textIn, Room};
 
 pub mod response;
-
-// The most bytes of a log that is printed.
-pub const LONGEST_LOG: usize = 86022;
 
 // What the printer answers.
 pub enum Printed {

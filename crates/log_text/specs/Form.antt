@@ -48,7 +48,7 @@ numberMost = 4294967295
 abbrev pub limitMost : ℕ
 limitMost = 2147483647
 
--- the greatest argument of a slot
+-- the greatest argument of a slot. That of a number is the number; that of an option is 0 where it is not there, else its number plus 1, or 1 where it has none
 abbrev pub slotMost : Slot → ℕ
 slotMost Number = numberMost
 slotMost Limit = 2147483648

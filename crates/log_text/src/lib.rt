@@ -57,6 +57,9 @@ pub struct Parts {
 // The most bytes of a text.
 pub const LONGEST_TEXT: usize = 1048576;
 
+// The most bytes of a log that a text says or that is printed: 6 for its start, and 21 for each of 4,096 records.
+pub const LONGEST_LOG: usize = 86022;
+
 // The greatest number, and the greatest limit.
 pub const NUMBER_MOST: u32 = 4294967295;
 

@@ -1,5 +1,7 @@
 // Reads a log from standard input, and writes its text to standard output, or why it has none.
 use log_printer::response;
+use log_printer::response::LONGEST_PRINTED;
+use log_text::LONGEST_LOG;
 
 fn convert(log: &mut [u8], text: &mut [u8]) {
     let n = io::read_full(0, log);
@@ -7,9 +9,9 @@ fn convert(log: &mut [u8], text: &mut [u8]) {
     io::write_all(1, &text[..length]);
 }
 
-// A log of more than 86,022 bytes is too long.
+// One byte more than the longest log is read, so that a longer one is known.
 fn main() {
-    let mut log = [0u8; 86023];
-    let mut text = [0u8; 258111];
+    let mut log = [0u8; LONGEST_LOG + 1];
+    let mut text = [0u8; LONGEST_PRINTED];
     convert(&mut log, &mut text);
 }
