@@ -8,14 +8,19 @@ use native.Mathlib.Nat.{add-zero, sub-zero}
 use native.Mathlib.Numerals.{add-one}
 use lib.ListN.{length, take, drop, getD, set, replicate, length-set, length-drop, length-take, List·getD-eq-default}
 use lib.Seq.{take-all, take-suc-set, drop-drop, getD-set-other, getD-take}
+use denote.Enum.Declared.{tagOf}
+use types.Run.{OneOf, miss}
 use Rattle.numbers.specs.declared.Number.the-variants.{Value, Refused}
 use Rattle.numbers.specs.Number.{numberOf}
 use Rattle.numbers.proofs.Decode.{side}
 use Rattle.numbers.proofs.Theorems.{number-within}
 use Rattle.log.specs.declared.Kind.{Kind}
-use Rattle.log.specs.declared.Read.the-variants.{End, Bad}
+use Rattle.log.specs.declared.Record.{Record}
+use Rattle.log.specs.declared.Read.{Read}
+use Rattle.log.specs.declared.Read.the-variants.{Taken, End, Bad}
 use Rattle.log.specs.Fields.{before, readFields}
 use Rattle.log.specs.Record.{kindOf, fieldCount, recordFrom, made, afterKind, recordOf}
+use Rattle.log.proofs.Read.{the-type}
 use Rattle.log.proofs.Fields.{before-before}
 use Rattle.log.proofs.Forms.{count-few}
 
@@ -96,3 +101,11 @@ module _ {s : List ℕ} {k : Kind} {count : ℕ} {fs : List ℕ} {at i : ℕ} (g
   reading-done h =
       let z : count - i ≡ 0 = omega arith in
       rw (g .same, z, append-nil (take i fs), taken 0, taken 1, taken 2, taken 3, add-zero at)
+
+-- ---- what `let .. else` tells of an answer of the reader that is no record: its variant is the second or the third
+
+abbrev pub NoRecord : Read → Type 0
+NoRecord x = OneOf (1 ∷ 2 ∷ []) (tagOf the-type x)
+
+pub no-record : {A : Type 0} (r : Record) (n : ℕ) → NoRecord (Taken r n) → A
+no-record r n other = absurd (miss (1 ∷ 2 ∷ []) 0 tt other)

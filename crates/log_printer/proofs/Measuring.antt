@@ -1,7 +1,7 @@
 -- The loop that measures the text: its length up to a record. Assumes nothing.
 use Prim.Native.Nat.{ℕ, _+_, _*_, _<_, _≤_}
 use mathlib.Core.Path.{_≡_, sym, _∙_}
-use mathlib.Core.List.{List, [], _∷_}
+use mathlib.Core.List.{List}
 use native.Mathlib.Omega.{arith}
 use native.Mathlib.Nat.{add-zero, zero-add}
 use lib.ListN.{length, drop, length-drop}
@@ -12,14 +12,14 @@ use Rattle.log.specs.declared.Read.{Read}
 use Rattle.log.specs.declared.Read.the-variants.{Taken, End, Bad}
 use Rattle.log.specs.Record.{recordOf}
 use Rattle.log.specs.Writer.{mostRecords}
+use Rattle.log.proofs.Reading.{NoRecord, no-record}
 use Rattle.log.proofs.Theorems.{record-length, record-expressible}
 use Rattle.log_text.specs.Printing.{partsOf, partsText, longestLine, printRecords}
 use Rattle.log_printer.specs.declared.Printed.the-variants.{TooMany}
 use Rattle.log_printer.specs.Steps.{measured, stopped}
 use Rattle.log_text.proofs.Widths.{record-short}
 use Rattle.log_text.proofs.Records.{print-skip, print-end, print-bad, print-taken}
-use Rattle.log_printer.proofs.Records.{NoRecord, measured-front}
-use types.Run.{miss}
+use Rattle.log_printer.proofs.Records.{measured-front}
 
 -- at a turn: `count` records up to the place `at` of the log have m bytes of text, with the first line
 pub record Measuring (log : List ℕ) (place first at count m : ℕ) : Type 0 where
@@ -40,7 +40,7 @@ module _ {log : List ℕ} {place first at count m : ℕ} (g : Measuring log plac
   pub measuring-stop : (x : Read) → recordOf (drop at log) ≡ x → NoRecord x → stopped x at m ≡ measured first (printRecords place 0 0 log)
   measuring-stop End e other = sym (g .same ∙ rw (print-end at count (drop at log) e, add-zero m))
   measuring-stop Bad e other = sym (g .same ∙ rw (print-bad at count (drop at log) e))
-  measuring-stop (Taken r n) e other = absurd (miss (1 ∷ 2 ∷ []) 0 tt other)
+  measuring-stop (Taken r n) e other = no-record r n other
 
   module _ (r : Record) (n : ℕ) (e : recordOf (drop at log) ≡ Taken r n) where
     pub measuring-many : mostRecords ≤ count → TooMany ≡ measured first (printRecords place 0 0 log)

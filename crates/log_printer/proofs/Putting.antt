@@ -2,7 +2,7 @@
 use Prim.Native.Nat.{ℕ, _+_, _≤_}
 use mathlib.Core.Path.{_≡_, refl, _∙_}
 use mathlib.Core.Bool.{true, false}
-use mathlib.Core.List.{List, [], _∷_, _++_}
+use mathlib.Core.List.{List, [], _++_}
 use native.Mathlib.Omega.{arith}
 use native.Mathlib.Nat.{zero-add}
 use lib.Dec.{ltb}
@@ -16,12 +16,12 @@ use Rattle.log.specs.declared.Read.{Read}
 use Rattle.log.specs.declared.Read.the-variants.{Taken, End, Bad}
 use Rattle.log.specs.Record.{recordOf}
 use Rattle.log.specs.Writer.{mostRecords}
+use Rattle.log.proofs.Reading.{NoRecord, no-record}
 use Rattle.log.proofs.Theorems.{record-length}
 use Rattle.log_text.specs.Printing.{partsOf, partsText, printRecords}
 use Rattle.log_printer.specs.Steps.{isText, textIn, Room}
 use Rattle.log_text.proofs.Records.{print-skip, print-end, print-bad, print-taken}
-use Rattle.log_printer.proofs.Records.{NoRecord, text-front}
-use types.Run.{miss}
+use Rattle.log_printer.proofs.Records.{text-front}
 
 -- at a turn: the text of the records from the place `next` of the log on is left to write from the place `end` of buf on
 pub record Putting (log : List ℕ) (place : ℕ) (start : List ℕ) (at : ℕ) (buf : List ℕ) (end next : ℕ) : Type 0 where
@@ -44,7 +44,7 @@ module _ {log : List ℕ} {place : ℕ} {start : List ℕ} {at : ℕ} {buf : Lis
   nothing : (x : Read) → recordOf (drop next log) ≡ x → NoRecord x → textIn (printRecords 0 next (g .count) (drop next log)) ≡ []
   nothing End e other = rw (print-end next (g .count) (drop next log) e)
   nothing Bad e other = rw (print-bad next (g .count) (drop next log) e)
-  nothing (Taken r n) e other = absurd (miss (1 ∷ 2 ∷ []) 0 tt other)
+  nothing (Taken r n) e other = no-record r n other
 
   pub putting-end : (x : Read) → recordOf (drop next log) ≡ x → NoRecord x → Wrote start at (textIn (printRecords place 0 0 log)) buf end
   putting-end x e other = writing-end (g .writing) (nothing x e other)

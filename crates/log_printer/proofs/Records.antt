@@ -1,23 +1,13 @@
--- What a record that is no record tells, and a text in front of another. Assumes nothing.
+-- Laws of a text in front of another. Assumes nothing.
 use Prim.Native.Nat.{ℕ, _+_}
 use mathlib.Core.Path.{_≡_, refl}
 use mathlib.Core.Bool.{true}
-use mathlib.Core.List.{List, [], _∷_, _++_}
+use mathlib.Core.List.{List, _++_}
 use native.Mathlib.Omega.{arith}
 use native.Mathlib.Nat.{add-assoc}
 use lib.ListN.{length, length-append}
-use denote.Enum.Declared.{tagOf}
-use Rattle.log.specs.declared.Read.{Read}
-use Rattle.log.proofs.Read.{the-type}
 use Rattle.log_text.specs.Printing.{Printed, Printed·text, Printed·bad, Printed·tooMany, Printed·tooLong, inFront}
 use Rattle.log_printer.specs.Steps.{measured, isText, textIn}
-use types.Run.{OneOf}
-
--- what `let .. else` tells of an answer of the reader that is no record: its variant is the second or the third
-abbrev pub NoRecord : Read → Type 0
-NoRecord x = OneOf (1 ∷ 2 ∷ []) (tagOf the-type x)
-
--- ---- a text in front
 
 module _ (s : List ℕ) where
   pub measured-front : (m : ℕ) (x : Printed) → measured m (inFront s x) ≡ measured (m + length s) x

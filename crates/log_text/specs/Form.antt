@@ -1,5 +1,5 @@
 -- The words of the text form of a log, and what stands behind each.
-use Prim.Native.Nat.{ℕ, _<_, _≤_}
+use Prim.Native.Nat.{ℕ, _+_, _<_, _≤_}
 use mathlib.Core.List.{List, [], _∷_}
 use lib.ListN.{length, getD}
 use Rattle.log_text.specs.declared.Keyword.{Keyword}
@@ -51,8 +51,8 @@ limitMost = 2147483647
 -- the greatest argument of a slot. That of a number is the number; that of an option is 0 where it is not there, else its number plus 1, or 1 where it has none
 abbrev pub slotMost : Slot → ℕ
 slotMost Number = numberMost
-slotMost Limit = 2147483648
-slotMost Priority = 4294967296
+slotMost Limit = limitMost + 1
+slotMost Priority = numberMost + 1
 slotMost Order = 1
 
 -- each slot has an argument that it can have

@@ -2,12 +2,11 @@
 use Prim.Native.Nat.{ℕ, _+_, _<_, _≤_}
 use mathlib.Core.Path.{_≡_, refl, sym, ap, _∙_}
 use mathlib.Core.Bool.{true, false}
-use mathlib.Core.List.{List, [], _∷_, _++_, append-assoc, append-nil}
+use mathlib.Core.List.{List, [], _++_, append-assoc, append-nil}
 use native.Mathlib.Omega.{arith}
 use lib.Dec.{leb}
 use lib.ListN.{length, drop, length-drop}
 use lib.Seq.{drop-drop}
-use denote.Enum.Declared.{tagOf}
 use borrow.Author.Tests.{leb-true, leb-false}
 use Rattle.model.specs.declared.Queue.{Queue}
 use Rattle.model.specs.Pool.{stored}
@@ -18,7 +17,7 @@ use Rattle.log.specs.declared.Record.{Record}
 use Rattle.log.specs.declared.Read.{Read}
 use Rattle.log.specs.declared.Read.the-variants.{Taken, End, Bad}
 use Rattle.log.specs.Record.{recordOf}
-use Rattle.log.proofs.Read.{the-type}
+use Rattle.log.proofs.Reading.{NoRecord, no-record}
 use Rattle.log.proofs.Theorems.{record-length}
 use Rattle.transcript.specs.Lines.{longestLine}
 use Rattle.transcript.specs.Transcript.{answerText, recordsText}
@@ -27,11 +26,6 @@ use Rattle.player.specs.declared.Progress.{Progress}
 use Rattle.player.specs.Steps.{replyTo, lastText, longestStep, Stepped}
 use Rattle.player.specs.declared.stages.Stage.{Stage}
 use Rattle.player.specs.Stages.{textSpace, Ready, Played}
-use types.Run.{OneOf, miss}
-
--- what `let .. else` tells of an answer of the reader that is no record: its variant is the second or the third
-abbrev pub NoRecord : Read → Type 0
-NoRecord x = OneOf (1 ∷ 2 ∷ []) (tagOf the-type x)
 
 -- at a turn: q is the queue, l the pool, `at` the place in the log
 pub record Playing (log : List ℕ) (q₀ : Queue) (at₀ count₀ end₀ : ℕ) (l₀ text₀ l text : List ℕ) (q : Queue) (at count end : ℕ) : Type 0 where
@@ -81,7 +75,7 @@ module _ {log l₀ text₀ l text : List ℕ} {q₀ q : Queue} {at₀ count₀ e
   last-text : (x : Read) → recordOf (drop at log) ≡ x → NoRecord x → recordsText 0 at count (stored l q) (drop at log) ≡ lastText x at count
   last-text End e other = records-end at count (stored l q) (drop at log) e
   last-text Bad e other = records-bad at count (stored l q) (drop at log) e
-  last-text (Taken r n) e other = absurd (miss (1 ∷ 2 ∷ []) 0 tt other)
+  last-text (Taken r n) e other = no-record r n other
 
 module _ {log l₀ text₀ l text : List ℕ} (s : Stage) {q : Queue} {at count end : ℕ} (v : Playing log (s .queue) (s .at) (s .count) (s .end) l₀ text₀ l text q at count end) where
   pub playing-last : {text′ : List ℕ} (x : Read) (last : ℕ) → s .over ≡ false → recordOf (drop at log) ≡ x → NoRecord x
