@@ -3,7 +3,6 @@
 // seconds, limits and priorities, then the columns; a limit is in two's complement. Byte i of the buffer is i % 251 before the call. What is no request
 // writes nothing.
 use layout::header;
-use log::writer;
 ghost use Prim.Native.Nat.{_+_, _*_, _≤_};
 ghost use lib.ListN.{length};
 
@@ -72,7 +71,7 @@ fn write(
     priorities: &[u32],
 ) {
     fill(buf);
-    let written = writer::write_log(buf, n, order, kinds, firsts, seconds, limits, priorities);
+    let written = log_writer::write_log(buf, n, order, kinds, firsts, seconds, limits, priorities);
     line(written.code, written.length);
     io::write_all(1, buf);
 }

@@ -12,7 +12,6 @@ use Rattle.numbers.specs.declared.Number.the-variants.{Value, Refused}
 use Rattle.numbers.specs.Number.{Bytes, numberBound, numberOf, encode}
 use Rattle.numbers.proofs.Theorems.{number-encode, encode-number, number-small, number-within, number-five, encode-length}
 use Rattle.log.specs.Fields.{Fields, Fields·read, Fields·refused, before, first, readFields, encodeFields, fieldsLength, Small}
-use Rattle.log.specs.Steps.{Counted}
 
 pub before-before : (xs : List ℕ) (a : ℕ) (ys : List ℕ) (b : ℕ) (r : Fields) → before xs a (before ys b r) ≡ before (xs ++ ys) (a + b) r
 before-before xs a ys b (Fields·read zs c) = rw (append-assoc xs ys zs, add-assoc a b c)
@@ -100,22 +99,3 @@ module _ (vs : List ℕ) (i : ℕ) where
   pub encode-past : length vs ≤ i → encodeFields (drop i vs) ≡ []
   unfolding encodeFields
   encode-past h = rw (drop-of-length-le vs h)
-
--- the bytes of the first i numbers were counted
-pub record Counting (vs : List ℕ) (i sum : ℕ) : Type 0 where
-  pub bytes : sum + fieldsLength (drop i vs) ≡ fieldsLength vs
-  pub few : sum ≤ 5 * i
-  pub within : i ≤ length vs
-
-module _ {vs : List ℕ} {i sum : ℕ} (g : Counting vs i sum) where
-  pub counting-next : i < length vs → getD vs i 0 < numberBound → Counting vs (i + 1) (sum + length (encode (getD vs i 0)))
-  unfolding fieldsLength
-  counting-next h l =
-      let next : fieldsLength (drop i vs) ≡ length (encode (getD vs i 0)) + fieldsLength (drop (i + 1) vs) = rw (add-one i, drop-cons vs i 0 h) in
-      record { bytes = omega (arith, g .bytes); few = omega (arith, g .few, encode-length (getD vs i 0) l); within = omega arith }
-
-  pub counting-end : length vs ≤ i → Counted vs sum
-  unfolding fieldsLength
-  counting-end h =
-      let past : fieldsLength (drop i vs) ≡ 0 = rw (drop-of-length-le vs h) in
-      record { bytes = omega (arith, g .bytes); few = omega (arith, g .few, g .within) }

@@ -140,10 +140,23 @@ module _ (a b c d after : ℕ) (r : Record) (n : ℕ) where
   made-inv (suc (suc (suc (suc (suc (suc (suc (suc k)))))))) e = not-taken e
 
 -- a list of at most four elements by its elements
-pub take-four : (fs : List ℕ) → length fs ≤ 4 → take (length fs) (getD fs 0 0 ∷ getD fs 1 0 ∷ getD fs 2 0 ∷ getD fs 3 0 ∷ []) ≡ fs
+abbrev pub four : List ℕ → List ℕ
+four fs = getD fs 0 0 ∷ getD fs 1 0 ∷ getD fs 2 0 ∷ getD fs 3 0 ∷ []
+
+pub take-four : (fs : List ℕ) → length fs ≤ 4 → take (length fs) (four fs) ≡ fs
 take-four [] h = refl
 take-four (a ∷ []) h = refl
 take-four (a ∷ b ∷ []) h = refl
 take-four (a ∷ b ∷ c ∷ []) h = refl
 take-four (a ∷ b ∷ c ∷ d ∷ []) h = refl
 take-four (a ∷ b ∷ c ∷ d ∷ e ∷ fs) h = absurd (omega arith)
+
+pub four-whole : (fs : List ℕ) → length fs ≡ 4 → four fs ≡ fs
+four-whole fs e = rw e at (take-four fs (omega arith))
+
+pub four-at : (fs : List ℕ) (i : ℕ) → i < 4 → getD (four fs) i 0 ≡ getD fs i 0
+four-at fs zero h = refl
+four-at fs (suc zero) h = refl
+four-at fs (suc (suc zero)) h = refl
+four-at fs (suc (suc (suc zero))) h = refl
+four-at fs (suc (suc (suc (suc i)))) h = absurd (omega arith)

@@ -5,7 +5,5 @@ pub mod Records
 pub mod Theorems
 pub mod Starts
 pub mod Logs
-pub mod Rows
-pub mod Writing
 pub mod LogTheorems
 pub mod Examples

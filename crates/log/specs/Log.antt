@@ -16,6 +16,10 @@ use Rattle.log.specs.declared.Read.the-variants.{Taken, End, Bad}
 use Rattle.log.specs.Fields.{fieldsLength}
 use Rattle.log.specs.Record.{fieldsOf, recordOf, encodeRecord, Expressible}
 
+-- the most records that are written
+abbrev pub mostRecords : ℕ
+mostRecords = 4096
+
 -- ---- a log in bytes
 
 -- records in bytes
@@ -84,6 +88,10 @@ pub record Log : Type 0 where
   pub long : ℕ
   pub order : ℕ
   pub records : List Record
+
+-- a log in bytes
+abbrev pub bytesOf : Log → List ℕ
+bytesOf l = logOf (l .long) (l .order) (l .records)
 
 abbrev pub withStart : ℕ → ℕ → Option (List Record) → Option Log
 withStart n order none = none

@@ -1,13 +1,11 @@
-// The log of calls: first the pool's length and order, then records.
+// The log of calls, first the pool's length and order, then records: how it is read.
 use model::FIFO_ORDER;
 use model::PRIORITY_ORDER;
 use numbers::Number;
 ghost use mathlib.Core.Path.{_≡_};
 ghost use Prim.Native.Nat.{_≤_};
-ghost use Rattle.log.specs.Record.{kindOf, fieldCount, limitOf, limitBound, recordFrom, recordOf};
+ghost use Rattle.log.specs.Record.{kindOf, fieldCount, limitOf, limitField, limitBound, recordFrom, recordOf};
 ghost use Rattle.log.specs.Log.{startOf};
-
-pub mod writer;
 
 pub enum Record {
     // task, size, limit: -1 is forever, 0 is a poll, above 0 are ticks
@@ -27,6 +25,9 @@ pub enum Record {
 // The most bytes of a log that is replayed.
 pub const LONGEST_LOG: usize = 65536;
 
+// The most records of a log that is written.
+pub const MOST_RECORDS: usize = 4096;
+
 // What a log begins with.
 pub enum Start {
     // the pool's length and order, and the place of the first record
@@ -43,7 +44,7 @@ pub enum Read {
 }
 
 // The kinds of record. Their numbers are 1 to 7 in this order.
-enum Kind {
+pub enum Kind {
     Get,
     Poll,
     Release,
@@ -58,7 +59,7 @@ enum Kind {
 const LIMIT_BOUND: u32 = 2147483648;
 
 // Record 8, which has no fields and stands only directly behind the pool's length: the pool's order is by priority.
-const ORDER_MARK: u32 = 8;
+pub const ORDER_MARK: u32 = 8;
 
 // The pool's length and order, at the start of a log.
 pub fn read_start(log: &[u8]) -> Start
@@ -103,7 +104,8 @@ pub fn read_record(rest: &[u8]) -> Read
     record_from(kind, fields[0], fields[1], fields[2], fields[3], at)
 }
 
-fn kind_of(number: u32) -> Kind
+// The kind of a number.
+pub fn kind_of(number: u32) -> Kind
     ensures { λ r. ⌜ r ≡ kindOf number ⌝ }
 {
     match number {
@@ -119,7 +121,7 @@ fn kind_of(number: u32) -> Kind
 }
 
 // How many fields follow a kind.
-fn field_count(kind: Kind) -> usize
+pub fn field_count(kind: Kind) -> usize
     ensures { λ r. ⌜ r ≡ fieldCount kind ⌝ }
 {
     match kind {
@@ -169,4 +171,14 @@ pub fn limit_of(field: u32) -> i32
         return -1;
     }
     (field - 1) as i32
+}
+
+// The field of a get's limit: the limit plus 1.
+pub fn limit_field(limit: i32) -> u32
+    ensures { λ r. ⌜ r ≡ limitField limit ⌝ }
+{
+    if limit < 0 {
+        return 0;
+    }
+    limit as u32 + 1
 }

@@ -6,6 +6,7 @@ use native.Mathlib.Omega.{arith}
 use native.Mathlib.Numerals.{add-one}
 use lib.ListN.{length, take, drop, getD, set, replicate, length-set, drop-of-length-le}
 use lib.Seq.{take-suc-set, getD-set-other, drop-cons}
+use Rattle.log.proofs.Forms.{four, four-whole}
 use Rattle.log.proofs.Reading.{getD-zeros, getD-taken}
 use Rattle.text.specs.Words.{wordsIn}
 use Rattle.log_text.specs.declared.Keyword.{Keyword}
@@ -70,29 +71,18 @@ module _ {s : List ℕ} {from : ℕ} {k : Keyword} {count : ℕ} {fs : List ℕ}
       zeros = λ j l. getD-set-other fs i j v 0 (λ q. omega arith) ∙ g .zeros j (omega arith);
     }
 
-  abbrev four : List ℕ
-  four = getD fs 0 0 ∷ getD fs 1 0 ∷ getD fs 2 0 ∷ getD fs 3 0 ∷ []
-
-  four-same : (fs : List ℕ) → length fs ≡ 4 → (j : ℕ) → getD fs j 0 ≡ getD (getD fs 0 0 ∷ getD fs 1 0 ∷ getD fs 2 0 ∷ getD fs 3 0 ∷ []) j 0
-  four-same (a ∷ b ∷ c ∷ d ∷ []) e j = refl
-  four-same [] e j = absurd (omega arith)
-  four-same (a ∷ []) e j = absurd (omega arith)
-  four-same (a ∷ b ∷ []) e j = absurd (omega arith)
-  four-same (a ∷ b ∷ c ∷ []) e j = absurd (omega arith)
-  four-same (a ∷ b ∷ c ∷ d ∷ x ∷ xs) e j = absurd (omega arith)
-
-  taken : (j : ℕ) → getD (take i fs) j 0 ≡ getD four j 0
-  taken j = getD-taken fs i (g .zeros) j ∙ four-same fs (g .size) j
+  taken : (j : ℕ) → getD (take i fs) j 0 ≡ getD (four fs) j 0
+  taken j = getD-taken fs i (g .zeros) j ∙ ap (λ l. getD l j 0) (sym (four-whole fs (g .size)))
 
   module _ (h : count ≤ i) where
     all : takeSlots (form k) (wordsIn (drop from s)) ≡ Arguments·taken (take i fs) (wordsIn (drop at s))
     unfolding takeSlots
     all = let past : length (form k) ≤ i = omega (arith, g .counted) in let none : drop i (form k) ≡ [] = drop-of-length-le (form k) past in g .same ∙ rw (none, append-nil (take i fs))
 
-    pub filling-bounded : Bounded (form k) four
+    pub filling-bounded : Bounded (form k) (four fs)
     filling-bounded =
         let b = slots-bounded (form k) (wordsIn (drop from s)) (take i fs) (wordsIn (drop at s)) all in
         record { most = λ j l. rw (← taken j) (b .most j l) }
 
-    pub filling-done : made k (Arguments·taken four (wordsIn (drop at s))) ≡ made k (takeSlots (form k) (wordsIn (drop from s)))
-    filling-done = sym (ap (made k) all ∙ made-same k (take i fs) four (wordsIn (drop at s)) taken)
+    pub filling-done : made k (Arguments·taken (four fs) (wordsIn (drop at s))) ≡ made k (takeSlots (form k) (wordsIn (drop from s)))
+    filling-done = sym (ap (made k) all ∙ made-same k (take i fs) (four fs) (wordsIn (drop at s)) taken)

@@ -4,7 +4,7 @@ use mathlib.Core.Path.{_≡_, refl}
 use mathlib.Core.Bool.{true, false}
 use native.Mathlib.Omega.{arith}
 use borrow.Author.Tests.{lt-ltb, le-ltb}
-use Rattle.log.specs.Writer.{mostRecords}
+use Rattle.log.specs.Log.{mostRecords}
 use Rattle.log_text.specs.declared.Why.the-variants.{TooManyRecords}
 use Rattle.log_text.specs.declared.Line.{Line}
 use Rattle.log_text.specs.declared.Line.the-variants.{Blank, Pool, Call, Refused}

@@ -11,12 +11,10 @@ use Rattle.text.specs.Words.{span, wordsIn, same, numeralOf}
 use Rattle.text.specs.Steps.{Stands}
 use Rattle.text.proofs.Spans.{span-take}
 use Rattle.log_text.specs.declared.Keyword.{Keyword}
-use Rattle.log_text.specs.declared.Keyword.the-variants as keyword
 use Rattle.log_text.specs.declared.Why.the-variants.{MissingNumber}
 use Rattle.log_text.specs.declared.Line.the-variants as line
 use Rattle.log_text.specs.Form.{form, numberMost}
-use Rattle.log_line.specs.Steps.{isKnown}
-use Rattle.log_text.specs.Reading.{takeSlots, keywordOf, unknown, lineBy, lineOf, Taken, Taken·argument, Taken·refused, Arguments·taken, byNumeral, takeNumber, plusOne, takeOption, takeWord, extra, lineFrom, made}
+use Rattle.log_text.specs.Reading.{takeSlots, keywordOf, isKnown, unknown, lineOf, Taken, Taken·argument, Taken·refused, Arguments·taken, byNumeral, takeNumber, plusOne, takeOption, takeWord, extra, lineFrom, made}
 
 -- ---- no word is left
 
@@ -64,32 +62,14 @@ pub line-blank : (begun : Bool) (ws : List (List ℕ)) → ws ≡ [] → line.Bl
 unfolding lineOf
 line-blank begun ws e = rw e
 
-by-unknown : (begun : Bool) (k : Keyword) (ws : List (List ℕ)) → isKnown k ≡ false → line.Refused (unknown begun) ≡ lineBy begun k ws
-by-unknown begun keyword.Unknown ws e = refl
-by-unknown begun keyword.Pool ws e = let z : _≡_ {A = ℕ} 0 1 = cc in absurd (omega arith)
-by-unknown begun keyword.Get ws e = let z : _≡_ {A = ℕ} 0 1 = cc in absurd (omega arith)
-by-unknown begun keyword.Poll ws e = let z : _≡_ {A = ℕ} 0 1 = cc in absurd (omega arith)
-by-unknown begun keyword.Release ws e = let z : _≡_ {A = ℕ} 0 1 = cc in absurd (omega arith)
-by-unknown begun keyword.Cancel ws e = let z : _≡_ {A = ℕ} 0 1 = cc in absurd (omega arith)
-by-unknown begun keyword.Tick ws e = let z : _≡_ {A = ℕ} 0 1 = cc in absurd (omega arith)
-
-by-known : (begun : Bool) (k : Keyword) (ws : List (List ℕ)) → isKnown k ≡ true → made k (takeSlots (form k) ws) ≡ lineBy begun k ws
-by-known begun keyword.Unknown ws e = let z : _≡_ {A = ℕ} 0 1 = cc in absurd (omega arith)
-by-known begun keyword.Pool ws e = refl
-by-known begun keyword.Get ws e = refl
-by-known begun keyword.Poll ws e = refl
-by-known begun keyword.Release ws e = refl
-by-known begun keyword.Cancel ws e = refl
-by-known begun keyword.Tick ws e = refl
-
 module _ {s : List ℕ} {a e : ℕ} (st : Stands s 0 a e) (begun : Bool) {k : Keyword} (q : k ≡ keywordOf begun (take (e - a) (drop a s))) where
   pub line-unknown : isKnown k ≡ false → line.Refused (unknown begun) ≡ lineOf begun (wordsIn s)
   unfolding lineOf
-  line-unknown h = rw (st .words, ← q) (by-unknown begun k (wordsIn (drop e s)) h)
+  line-unknown h = rw (st .words, ← q, h)
 
   pub line-known : isKnown k ≡ true → made k (takeSlots (form k) (wordsIn (drop e s))) ≡ lineOf begun (wordsIn s)
   unfolding lineOf
-  line-known h = rw (st .words, ← q) (by-known begun k (wordsIn (drop e s)) h)
+  line-known h = rw (st .words, ← q, h)
 
 -- the part of a line in front of its comment
 pub plain-part : (s : List ℕ) (end : ℕ) → end ≡ 0 + length (span Plain (drop 0 s)) → take (end - 0) (drop 0 s) ≡ span Plain s

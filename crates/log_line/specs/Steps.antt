@@ -4,23 +4,12 @@ use mathlib.Core.Bool.{Bool, true, false}
 use mathlib.Core.List.{List}
 use lib.ListN.{drop}
 use Rattle.text.specs.Words.{wordsIn}
-use Rattle.log_text.specs.declared.Keyword.{Keyword}
-use Rattle.log_text.specs.declared.Keyword.the-variants as keyword
 use Rattle.log_text.specs.declared.Line.{Line}
 use Rattle.log_text.specs.declared.Line.the-variants as line
 use Rattle.log_text.specs.Reading as reading
 use Rattle.log_text.specs.Reading.{Taken·argument, Taken·refused}
 use Rattle.log_line.specs.declared.Argument.{Argument}
 use Rattle.log_line.specs.declared.Argument.the-variants.{Taken, Refused}
-
-abbrev pub isKnown : Keyword → Bool
-isKnown keyword.Pool = true
-isKnown keyword.Get = true
-isKnown keyword.Poll = true
-isKnown keyword.Release = true
-isKnown keyword.Cancel = true
-isKnown keyword.Tick = true
-isKnown keyword.Unknown = false
 
 abbrev pub isCall : Line → Bool
 isCall line.Blank = false

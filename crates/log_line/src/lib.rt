@@ -1,6 +1,6 @@
 // The line of a text: its words are taken from left to right.
+use log::MOST_RECORDS;
 use log::Record;
-use log::writer::MOST_RECORDS;
 use log_text::Keyword;
 use log_text::LIMIT_MOST;
 use log_text::Line;
@@ -21,8 +21,8 @@ ghost use lib.ListN.{drop};
 ghost use Rattle.log.specs.Record.{limitOf, limitBound};
 ghost use Rattle.text.specs.Words.{wordsIn, wordsOf};
 ghost use Rattle.log_text.specs.Form.{form, Bounded};
-ghost use Rattle.log_text.specs.Reading.{Arguments·taken, takeNumber, takeOption, takeWord, takeSlot, takeSlots, getWith, pollWith, orderWith, extra, lineFrom, made, keywordOf, unknown, lineOf, limited};
-ghost use Rattle.log_line.specs.Steps.{isKnown, isCall, seen, refusalOf};
+ghost use Rattle.log_text.specs.Reading.{Arguments·taken, takeNumber, takeOption, takeWord, takeSlot, takeSlots, getWith, pollWith, orderWith, extra, lineFrom, made, keywordOf, isKnown, unknown, lineOf, limited};
+ghost use Rattle.log_line.specs.Steps.{isCall, seen, refusalOf};
 
 // What a slot takes from a line.
 enum Argument {

@@ -13,8 +13,7 @@ use Rattle.numbers.proofs.Theorems.{encode-length}
 use Rattle.numbers.specs.Number.{encode}
 use Rattle.log.specs.declared.Record.{Record}
 use Rattle.log.specs.Record.{encodeRecord}
-use Rattle.log.specs.Log.{startBytes, markOf, encodeRecords, Log}
-use Rattle.log.specs.Writer.{mostRecords}
+use Rattle.log.specs.Log.{mostRecords, startBytes, markOf, encodeRecords, Log, bytesOf}
 use Rattle.log.proofs.Starts.{start-most}
 use Rattle.log.proofs.Theorems.{encode-record-length}
 use Rattle.log.proofs.LogTheorems.{log-length, log-most}
@@ -23,7 +22,6 @@ use Rattle.log_text.specs.declared.Line.{Line}
 use Rattle.log_text.specs.declared.Line.the-variants.{Blank, Pool, Call, Refused}
 use Rattle.log_text.specs.Reading.{isBegun, recordCount, lineOf, lineAfter, withLine, Parsed, Parsed·log, goOn, parseLines}
 use Rattle.log_text.proofs.Lines.{Fit, line-fits, Sound, went, end-log}
-use Rattle.log_parser.specs.Parser.{bytesOf}
 use Rattle.log_parser.specs.Steps.{isRefused, refusedAt, lineBytes, callCount, measured}
 
 pub wrote-nothing : (buf : List ℕ) (at : ℕ) → Wrote buf at [] buf at

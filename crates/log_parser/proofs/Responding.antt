@@ -1,33 +1,27 @@
--- What `parse_text` leaves, by its answer. Assumes nothing.
+-- What `respond` leaves, by the answer of `parse_text`. Assumes nothing.
 use Prim.Native.Nat.{ℕ, _<_, _≤_}
-use mathlib.Core.Path.{_≡_, refl, ap}
+use mathlib.Core.Path.{_≡_, refl}
 use mathlib.Core.Bool.{Bool, true, false}
 use mathlib.Core.List.{List, [], _∷_, _++_, append-assoc}
 use native.Mathlib.Omega.{arith}
-use lib.Dec.{leb}
-use lib.ListN.{length, drop}
-use borrow.Author.Tests.{le-leb, lt-leb}
-use Rattle.model.proofs.Tests.{by}
+use lib.ListN.{length}
 use Rattle.numbers.specs.Wrote.{Wrote}
-use Rattle.numbers.proofs.Wrote.{wrote-start}
-use Rattle.log.specs.Log.{Log}
-use Rattle.log.proofs.LogTheorems.{log-length, log-most}
+use Rattle.numbers.specs.Fill.{outcome, Result·bytes, Result·refused, Responded}
+use Rattle.numbers.proofs.Fill.{response-short, Told, responded-done, responded-refused}
+use Rattle.log.specs.Log.{bytesOf}
 use Rattle.text.specs.Decimal.{decimal, around}
 use Rattle.log_text.specs.declared.Why.{Why}
 use Rattle.log_text.specs.declared.Why.the-variants.{UnknownWord, MissingNumber, NumberTooLarge, TooManyNumbers, NoPoolLine, TooManyRecords}
-use Rattle.log_text.specs.Printing.{Printable, longestLog}
+use Rattle.log_text.specs.Reasons.{whyText}
+use Rattle.log_text.specs.Printing.{longestLog}
 use Rattle.log_text.specs.Reading as reading
 use Rattle.log_text.specs.Reading.{Parsed·log, Parsed·refused, Parsed·tooLong, parse}
-use Rattle.log_text.proofs.Lines.{parse-sound}
+use Rattle.log_text.proofs.Theorems.{parse-printable, printable-short}
 use Rattle.log_parser.specs.declared.Parsed as answer
 use Rattle.log_parser.specs.declared.Parsed.the-variants.{Refused, TooLong, NoRoom}
 use Rattle.log_parser.specs.declared.Parsed.the-variants as variant
-use Rattle.log_parser.specs.Parser.{outcome, bytesOf, parsed, parseText}
-use Rattle.log_parser.specs.Response.{whyText, refusedLine, tooLongLine, responseTo, Responded}
-
--- a buffer that is too short for some logs
-pub response-short : (text buf : List ℕ) → length buf < longestLog → Responded text buf buf 0
-response-short text buf h = record { wrote = rw (lt-leb longestLog (length buf) h) (record { place = refl; stored = refl }); inside = omega arith }
+use Rattle.log_parser.specs.Parser.{asLog, parseText}
+use Rattle.log_parser.specs.Response.{refusedLine, refusalLine, responseFor}
 
 -- the line of a refusal
 pub why-short : (why : Why) → length (whyText why) ≤ 24
@@ -42,66 +36,40 @@ pub line-parts : (k : ℕ) (why : Why) → around (108 ∷ 105 ∷ 110 ∷ 101 �
 line-parts k why = rw (append-assoc (decimal k) (58 ∷ 32 ∷ []) (whyText why))
 
 -- a line is refused, or the text is too long
-abbrev isRefusal : answer.Parsed → Bool
-isRefusal (variant.Log n) = false
-isRefusal (Refused k why) = true
-isRefusal TooLong = true
-isRefusal NoRoom = false
+abbrev refuses : answer.Parsed → Bool
+refuses (variant.Log n) = false
+refuses (Refused k why) = true
+refuses TooLong = true
+refuses NoRoom = false
 
--- no log is too long for any other
-sound-most : (l : Log) → Printable l → length (bytesOf l) ≤ longestLog
-sound-most l s = omega (arith, log-length (l .long) (l .order) (l .records), log-most (l .long) (l .order) (l .records) (s .small) (s .all), s .few)
+told : (text : List ℕ) → Told variant.Log refuses longestLog (asLog (parse text))
+told text = record { stored = λ n. refl; refused = refused (parse text); most = most (parse text) refl }
+  where
+    refused : (p : reading.Parsed) (a : answer.Parsed) → asLog p ≡ Result·refused a → refuses a ≡ true
+    refused (Parsed·log l) a e = let z : _≡_ {A = ℕ} 0 1 = cc in absurd (omega arith)
+    refused (Parsed·refused k why) a e = let same : Refused k why ≡ a = cc in rw (← same)
+    refused Parsed·tooLong a e = let same : TooLong ≡ a = cc in rw (← same)
 
-module _ (text buf : List ℕ) (h : longestLog ≤ length buf) where
-  room : (bytes : List ℕ) → responseTo (parse text) ≡ bytes → {after : List ℕ} {end : ℕ} → Wrote buf 0 bytes after end → end ≤ longestLog → Responded text buf after end
-  room bytes e w k = record { wrote = rw (le-leb longestLog (length buf) h, e) w; inside = omega arith }
+    most : (p : reading.Parsed) → parse text ≡ p → (s : List ℕ) → asLog p ≡ Result·bytes s → length s ≤ longestLog
+    most (Parsed·log l) q s e = let same : bytesOf l ≡ s = cc in rw (← same) (printable-short l (parse-printable text l q))
+    most (Parsed·refused k why) q s e = let z : _≡_ {A = ℕ} 0 1 = cc in absurd (omega arith)
+    most Parsed·tooLong q s e = let z : _≡_ {A = ℕ} 0 1 = cc in absurd (omega arith)
 
-  module _ (after : List ℕ) where
-    log-written : (n : ℕ) (p : reading.Parsed) → parse text ≡ p → outcome (variant.Log n) after ≡ parsed p buf → Wrote buf 0 (responseTo p) after n × (n ≤ longestLog)
-    log-written n (Parsed·log l) q e =
-        let fits : length (bytesOf l) ≤ length buf = omega (arith, sound-most l (parse-sound text l q)) in
-        let f : outcome (variant.Log n) after ≡ outcome (variant.Log (length (bytesOf l))) (bytesOf l ++ drop (length (bytesOf l)) buf) = rw (le-leb (length (bytesOf l)) (length buf) fits) at e in
-        let size : n ≡ length (bytesOf l) = cc (ap (λ o. o .answer) f) in
-        let left : after ≡ bytesOf l ++ drop (length (bytesOf l)) buf = ap (λ o. o .buffer) f in
-        (rw (size, left) (wrote-start (bytesOf l) buf fits), omega (arith, sound-most l (parse-sound text l q)))
-    log-written n (Parsed·refused k why) q e = let f = ap (λ o. o .answer) e in let z : _≡_ {A = ℕ} 0 1 = cc in absurd (omega arith)
-    log-written n Parsed·tooLong q e = let f = ap (λ o. o .answer) e in let z : _≡_ {A = ℕ} 0 1 = cc in absurd (omega arith)
+-- a buffer that is too short for some
+pub response-small : (text buf : List ℕ) → length buf < longestLog → Responded (responseFor text buf) buf buf 0
+response-small text buf h = response-short longestLog refusalLine (asLog (parse text)) buf h
 
-    pub response-log : (n : ℕ) → outcome (variant.Log n) after ≡ parseText text buf → Responded text buf after n
-    response-log n e = let w = log-written n (parse text) refl e in room (responseTo (parse text)) refl (w .0) (w .1)
+module _ (text buf : List ℕ) (room : longestLog ≤ length buf) (after : List ℕ) where
+  pub response-log : (n : ℕ) → outcome (variant.Log n) after ≡ parseText text buf → Responded (responseFor text buf) buf after n
+  response-log n e =
+      let d = responded-done (told text) NoRoom refusalLine buf room (variant.Log n) after refl e in
+      let size = d .1 in
+      let same : n ≡ d .0 = cc in
+      rw same (d .2)
 
-    -- a log is no refusal
-    log-kept : {A : Type 0} (l : Log) (a : answer.Parsed) → isRefusal a ≡ true → outcome a after ≡ parsed (Parsed·log l) buf → A
-    log-kept l a n e =
-        by (leb (length (bytesOf l)) (length buf))
-        (λ t. let f = ap (λ o. isRefusal (o .answer)) (rw t at e) in let z : _≡_ {A = ℕ} 0 1 = cc in absurd (omega arith))
-        (λ t. let f = ap (λ o. isRefusal (o .answer)) (rw t at e) in let z : _≡_ {A = ℕ} 0 1 = cc in absurd (omega arith))
+  module _ {last : List ℕ} {end : ℕ} where
+    pub response-refused : (a : answer.Parsed) → refuses a ≡ true → outcome a after ≡ parseText text buf → Wrote after 0 (refusalLine a) last end → length (refusalLine a) ≤ longestLog → Responded (responseFor text buf) buf last end
+    response-refused a k e w h = responded-refused (told text) NoRoom refusalLine buf room a after k e w h
 
-    refused-kept : (k : ℕ) (why : Why) (p : reading.Parsed) → outcome (Refused k why) after ≡ parsed p buf → (responseTo p ≡ refusedLine k why) × (after ≡ buf)
-    refused-kept k why (Parsed·log l) e = log-kept l (Refused k why) refl e
-    refused-kept k why (Parsed·refused j w) e =
-        let f = ap (λ o. o .answer) e in let same : j ≡ k = cc in let reason : w ≡ why = cc in (rw (same, reason), ap (λ o. o .buffer) e)
-    refused-kept k why Parsed·tooLong e = let f = ap (λ o. o .answer) e in let z : _≡_ {A = ℕ} 0 1 = cc in absurd (omega arith)
-
-    long-kept : (p : reading.Parsed) → outcome TooLong after ≡ parsed p buf → (responseTo p ≡ tooLongLine) × (after ≡ buf)
-    long-kept (Parsed·log l) e = log-kept l TooLong refl e
-    long-kept (Parsed·refused j w) e = let f = ap (λ o. o .answer) e in let z : _≡_ {A = ℕ} 0 1 = cc in absurd (omega arith)
-    long-kept Parsed·tooLong e = (refl, ap (λ o. o .buffer) e)
-
-    no-room : {A : Type 0} (p : reading.Parsed) → parse text ≡ p → outcome NoRoom after ≡ parsed p buf → A
-    no-room (Parsed·log l) q e =
-        let fits : length (bytesOf l) ≤ length buf = omega (arith, sound-most l (parse-sound text l q)) in
-        let f = ap (λ o. o .answer) (rw (le-leb (length (bytesOf l)) (length buf) fits) at e) in
-        let z : _≡_ {A = ℕ} 0 1 = cc in absurd (omega arith)
-    no-room (Parsed·refused j w) q e = let f = ap (λ o. o .answer) e in let z : _≡_ {A = ℕ} 0 1 = cc in absurd (omega arith)
-    no-room Parsed·tooLong q e = let f = ap (λ o. o .answer) e in let z : _≡_ {A = ℕ} 0 1 = cc in absurd (omega arith)
-
-    module _ {last : List ℕ} {end : ℕ} where
-      pub response-refused : (k : ℕ) (why : Why) → outcome (Refused k why) after ≡ parseText text buf → Wrote after 0 (refusedLine k why) last end × (end ≤ 64) → Responded text buf last end
-      response-refused k why e w = let r = refused-kept k why (parse text) e in room (refusedLine k why) (r .0) (rw (r .1) at (w .0)) (omega (arith, w .1))
-
-      pub response-long : outcome TooLong after ≡ parseText text buf → Wrote after 0 tooLongLine last end → Responded text buf last end
-      response-long e w = let r = long-kept (parse text) e in room tooLongLine (r .0) (rw (r .1) at w) (omega (arith, w .place))
-
-      pub response-none : outcome NoRoom after ≡ parseText text buf → Responded text buf last end
-      response-none e = no-room (parse text) refl e
+    pub response-none : outcome NoRoom after ≡ parseText text buf → Responded (responseFor text buf) buf last end
+    response-none e = let d = responded-done (told text) NoRoom refusalLine buf room NoRoom after refl e in let size = d .1 in let z : _≡_ {A = ℕ} 0 1 = cc in absurd (omega arith)

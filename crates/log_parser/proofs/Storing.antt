@@ -2,16 +2,17 @@
 use Prim.Native.Nat.{ℕ, _+_, _-_, _<_, _≤_}
 use mathlib.Core.Path.{_≡_, refl, sym, ap, _∙_}
 use mathlib.Core.Bool.{Bool, true, false}
-use mathlib.Core.List.{List, _++_}
+use mathlib.Core.List.{List}
 use mathlib.Core.Option.{Option, none, some}
 use native.Mathlib.Omega.{arith}
-use native.Mathlib.Nat.{zero-add}
 use lib.Dec.{ltb}
 use lib.ListN.{length, take, drop, drop-of-length-le}
 use borrow.Author.Tests.{le-leb, lt-leb}
 use Rattle.numbers.specs.Wrote.{Wrote}
-use Rattle.numbers.proofs.Wrote.{wrote-append, wrote-length, wrote-parts}
-use Rattle.log.specs.Log.{Log}
+use Rattle.numbers.specs.Fill.{outcome, bytesIn}
+use Rattle.numbers.proofs.Wrote.{wrote-append, wrote-length}
+use Rattle.numbers.proofs.Fill.{fill-short, fill-done}
+use Rattle.log.specs.Log.{Log, bytesOf}
 use Rattle.text.specs.declared.words.Class.the-variants.{Line}
 use Rattle.text.specs.Words.{span, pieces, linesOf, wordsOf}
 use Rattle.text.proofs.Pieces.{line-next}
@@ -21,8 +22,8 @@ use Rattle.log_text.specs.Reading.{isBegun, recordCount, lineOf, lineAfter, wit
 use Rattle.log_text.proofs.Lines.{Fit, line-fits, Sound, sound-next, Went, went, lines-end}
 use Rattle.log_parser.specs.declared.Parsed as answer
 use Rattle.log_parser.specs.declared.Parsed.the-variants as variant
-use Rattle.log_parser.specs.Parser.{outcome, bytesOf, parsed, parseText}
-use Rattle.log_parser.specs.Steps.{lineBytes, measured, parsedBytes, Room}
+use Rattle.log_parser.specs.Parser.{asLog, parsed, parseText}
+use Rattle.log_parser.specs.Steps.{lineBytes, measured, Room}
 use Rattle.log_parser.proofs.Growing.{logBytes, bytes-next, size-next, bytes-begun, lines-most}
 
 -- the lines in front of the place `at` are written
@@ -79,7 +80,7 @@ module _ {text start : List ℕ} (room : Room (parseLines 1 none (linesOf text))
         wrote = rw (bytes-next (g .log) y fit) (wrote-append (g .wrote) w);
       }
 
-  pub storing-done : length text ≤ at → Wrote start 0 (parsedBytes (parseLines 1 none (linesOf text))) buf place
+  pub storing-done : length text ≤ at → Wrote start 0 (bytesIn (asLog (parseLines 1 none (linesOf text)))) buf place
   unfolding pieces
   storing-done h =
       let all : g .log ≡ some (room .log) = lines-end (g .number) (g .log) (room .log) (sym (g .same ∙ rw (drop-of-length-le text h)) ∙ room .same) in
@@ -95,19 +96,16 @@ measured-log Parsed·tooLong size e = let z : _≡_ {A = ℕ} 0 1 = cc in absurd
 
 stored-log : (l : Log) (size : ℕ) (buf : List ℕ) → size ≡ length (bytesOf l) → size ≤ length buf → {after : List ℕ} {end : ℕ} → Wrote buf 0 (bytesOf l) after end
     → outcome (variant.Log size) after ≡ parsed (Parsed·log l) buf
-stored-log l size buf e h {after} {end} w =
-    let fits : length (bytesOf l) ≤ length buf = omega arith in
-    let parts : after ≡ bytesOf l ++ drop (length (bytesOf l)) buf = wrote-parts w (omega arith) ∙ rw (zero-add (length (bytesOf l))) in
-    rw (le-leb (length (bytesOf l)) (length buf) fits, e, parts)
+stored-log l size buf e h {after} {end} w = let same : size ≡ end = omega (arith, w .place) in rw same (fill-done variant.Log variant.NoRoom (bytesOf l) buf (omega arith) w)
 
 module _ (p : reading.Parsed) (size : ℕ) (e : measured p ≡ variant.Log size) (buf : List ℕ) where
   pub store-short : length buf < size → outcome variant.NoRoom buf ≡ parsed p buf
-  store-short h = let m = measured-log p size e in rw (m .1) (rw (lt-leb (length (bytesOf (m .0))) (length buf) (omega (arith, m .2))))
+  store-short h = let m = measured-log p size e in rw (m .1) (fill-short variant.Log variant.NoRoom (bytesOf (m .0)) buf (omega (arith, m .2)))
 
   pub store-room : size ≤ length buf → Room p buf
   store-room h = let m = measured-log p size e in record { log = m .0; same = m .1; fits = omega (arith, m .2) }
 
-  pub store-done : size ≤ length buf → {after : List ℕ} {end : ℕ} → Wrote buf 0 (parsedBytes p) after end → outcome (variant.Log size) after ≡ parsed p buf
+  pub store-done : size ≤ length buf → {after : List ℕ} {end : ℕ} → Wrote buf 0 (bytesIn (asLog p)) after end → outcome (variant.Log size) after ≡ parsed p buf
   store-done h w = let m = measured-log p size e in rw (m .1) (stored-log (m .0) size buf (m .2) h (rw (m .1) at w))
 
 -- ---- the answers of `parse_text`

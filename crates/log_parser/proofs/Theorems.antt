@@ -6,11 +6,10 @@ use mathlib.Core.Option.{none, some}
 use Rattle.numbers.specs.Number.{decode}
 use Rattle.log.specs.Fields.{readFields}
 use Rattle.log.specs.Record.{recordOf}
-use Rattle.log.specs.Log.{startOf, recordsOf, Log, readLog}
+use Rattle.log.specs.Log.{startOf, recordsOf, Log, bytesOf, readLog}
 use Rattle.log_text.specs.declared.Why.{Why}
 use Rattle.log_text.specs.Reading.{Parsed·log, parse}
 use Rattle.log_text.proofs.Theorems.{parse-printable, printable-read}
-use Rattle.log_parser.specs.Parser.{bytesOf}
 use Rattle.log_parser.specs.Response.{refusedLine, tooLongLine}
 
 -- no log begins with 'li' or 'te'

@@ -4,15 +4,16 @@ use mathlib.Core.Path.{_≡_}
 use mathlib.Core.Bool.{Bool, true, false}
 use mathlib.Core.List.{List, []}
 use lib.ListN.{length}
+use Rattle.numbers.specs.Fill.{answerOf}
 use Rattle.log.specs.Record.{encodeRecord}
-use Rattle.log.specs.Log.{startBytes, Log}
+use Rattle.log.specs.Log.{startBytes, Log, bytesOf}
 use Rattle.log_text.specs.declared.Line.{Line}
 use Rattle.log_text.specs.declared.Line.the-variants as line
 use Rattle.log_text.specs.Reading as reading
-use Rattle.log_text.specs.Reading.{Parsed·log, Parsed·refused, Parsed·tooLong}
+use Rattle.log_text.specs.Reading.{Parsed·log}
 use Rattle.log_parser.specs.declared.Parsed as answer
 use Rattle.log_parser.specs.declared.Parsed.the-variants as variant
-use Rattle.log_parser.specs.Parser.{bytesOf}
+use Rattle.log_parser.specs.Parser.{asLog}
 
 abbrev pub isRefused : Line → Bool
 isRefused line.Blank = false
@@ -42,15 +43,7 @@ callCount (line.Refused why) = 0
 
 -- the length of the log, or the refusal
 abbrev pub measured : reading.Parsed → answer.Parsed
-measured (Parsed·log l) = variant.Log (length (bytesOf l))
-measured (Parsed·refused k why) = variant.Refused k why
-measured Parsed·tooLong = variant.TooLong
-
--- the bytes of the log
-abbrev pub parsedBytes : reading.Parsed → List ℕ
-parsedBytes (Parsed·log l) = bytesOf l
-parsedBytes (Parsed·refused k why) = []
-parsedBytes Parsed·tooLong = []
+measured p = answerOf variant.Log (asLog p)
 
 -- there is a log, and the buffer holds it
 pub record Room (p : reading.Parsed) (buf : List ℕ) : Type 0 where

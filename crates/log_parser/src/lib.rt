@@ -8,10 +8,11 @@ ghost use mathlib.Core.Path.{_≡_};
 ghost use mathlib.Core.Option.{none};
 ghost use lib.ListN.{length};
 ghost use Rattle.numbers.specs.Wrote.{Wrote};
+ghost use Rattle.numbers.specs.Fill.{outcome, bytesIn};
 ghost use Rattle.text.specs.Words.{linesOf};
 ghost use Rattle.log_text.specs.Reading.{longestText, parseLines};
-ghost use Rattle.log_parser.specs.Parser.{outcome, parsed, parseText};
-ghost use Rattle.log_parser.specs.Steps.{isRefused, refusedAt, lineBytes, callCount, measured, parsedBytes, Room};
+ghost use Rattle.log_parser.specs.Parser.{asLog, parsed, parseText};
+ghost use Rattle.log_parser.specs.Steps.{isRefused, refusedAt, lineBytes, callCount, measured, Room};
 
 pub mod response;
 
@@ -85,7 +86,7 @@ fn measure(text: &[u8]) -> Parsed
 // Writes the log that a text says, and answers its length.
 fn write_lines(text: &[u8], buf: &mut [u8]) -> usize
     requires { ⌜ (length (now text) ≤ longestText) × Room (parseLines 1 none (linesOf (now text))) (now buf) ⌝ }
-    ensures { λ r. ⌜ Wrote (now (buf .entry)) 0 (parsedBytes (parseLines 1 none (linesOf (now (text .entry))))) (now (buf .exit)) r ⌝ }
+    ensures { λ r. ⌜ Wrote (now (buf .entry)) 0 (bytesIn (asLog (parseLines 1 none (linesOf (now (text .entry)))))) (now (buf .exit)) r ⌝ }
 {
     let mut at: usize = 0;
     let mut place: usize = 0;
@@ -105,8 +106,8 @@ fn write_line(buf: &mut [u8], at: usize, said: Line) -> usize
 {
     match said {
         Line::Blank => at,
-        Line::Pool(n, order) => log::writer::write_start(buf, at, n, order),
-        Line::Call(item) => log::writer::write_record(buf, at, item),
+        Line::Pool(n, order) => log_writer::write_start(buf, at, n, order),
+        Line::Call(item) => log_writer::write_record(buf, at, item),
         Line::Refused(_) => at,
     }
 }

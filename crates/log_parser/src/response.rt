@@ -2,15 +2,16 @@
 use crate::Parsed;
 use log_text::LONGEST_LOG;
 use log_text::Why;
-ghost use Prim.Native.Nat.{_+_, _≤_};
+ghost use Prim.Native.Nat.{_≤_};
 ghost use lib.ListN.{length};
 ghost use Rattle.numbers.specs.Wrote.{Wrote};
-ghost use Rattle.log_parser.specs.Response.{whyText, refusedLine, Responded};
+ghost use Rattle.numbers.specs.Fill.{Responded};
+ghost use Rattle.log_parser.specs.Response.{refusedLine, responseFor};
 
 // Writes the log that a text says, or one line that says why there is none, at the start of buf, and answers the place after it. Where buf has fewer than
 // LONGEST_LOG bytes, nothing is written.
 pub fn respond(text: &[u8], buf: &mut [u8]) -> usize
-    ensures { λ r. ⌜ Responded (now (text .entry)) (now (buf .entry)) (now (buf .exit)) r ⌝ }
+    ensures { λ r. ⌜ Responded (responseFor (now (text .entry)) (now (buf .entry))) (now (buf .entry)) (now (buf .exit)) r ⌝ }
 {
     if buf.len() < LONGEST_LOG {
         return 0;
@@ -30,19 +31,5 @@ fn refused_line(buf: &mut [u8], number: usize, why: Why) -> usize
     ensures { λ r. ⌜ Wrote (now (buf .entry)) 0 (refusedLine number why) (now (buf .exit)) r × (r ≤ 64) ⌝ }
 {
     let at = text::put_around(buf, 0, b"line ", number, b": ");
-    put_why(buf, at, why)
-}
-
-fn put_why(buf: &mut [u8], at: usize, why: Why) -> usize
-    requires { ⌜ at + length (whyText why) ≤ length (now buf) ⌝ }
-    ensures { λ r. ⌜ Wrote (now (buf .entry)) at (whyText why) (now (buf .exit)) r ⌝ }
-{
-    match why {
-        Why::UnknownWord => text::put_text(buf, at, b"unknown word\n"),
-        Why::MissingNumber => text::put_text(buf, at, b"missing number\n"),
-        Why::NumberTooLarge => text::put_text(buf, at, b"number too large\n"),
-        Why::TooManyNumbers => text::put_text(buf, at, b"too many numbers\n"),
-        Why::NoPoolLine => text::put_text(buf, at, b"no pool line\n"),
-        Why::TooManyRecords => text::put_text(buf, at, b"more than 4,096 records\n"),
-    }
+    log_text::put_why(buf, at, why)
 }

@@ -11,7 +11,7 @@ use Rattle.log.specs.declared.Record.{Record}
 use Rattle.log.specs.declared.Read.{Read}
 use Rattle.log.specs.declared.Read.the-variants.{Taken, End, Bad}
 use Rattle.log.specs.Record.{recordOf}
-use Rattle.log.specs.Writer.{mostRecords}
+use Rattle.log.specs.Log.{mostRecords}
 use Rattle.log.proofs.Reading.{NoRecord, no-record}
 use Rattle.log.proofs.Theorems.{record-length, record-expressible}
 use Rattle.log_text.specs.Printing.{partsOf, partsText, longestLine, printRecords}

@@ -3,12 +3,13 @@ use Prim.Native.Nat.{ℕ, _+_, _<_, _≤_}
 use mathlib.Core.Path.{_≡_, refl, sym, _∙_}
 use mathlib.Core.List.{List, [], _∷_, _++_, append-nil}
 use native.Mathlib.Omega.{arith}
-use native.Mathlib.Nat.{zero-add}
-use lib.ListN.{length, drop, length-append}
+use lib.ListN.{length, length-append}
 use denote.Enum.Declared.{tagOf}
 use borrow.Author.Tests.{le-leb, lt-leb}
 use Rattle.numbers.specs.Wrote.{Wrote}
-use Rattle.numbers.proofs.Wrote.{Writing, wrote-parts, writing-start, writing-next, writing-end}
+use Rattle.numbers.specs.Fill.{outcome}
+use Rattle.numbers.proofs.Wrote.{Writing, writing-start, writing-next, writing-end}
+use Rattle.numbers.proofs.Fill.{fill-short, fill-done}
 use Rattle.log.specs.declared.Start.the-variants as start
 use Rattle.log.specs.Log.{startOf}
 use Rattle.log.proofs.Starts.{begun}
@@ -16,7 +17,7 @@ use Rattle.log_text.specs.Printing as printing
 use Rattle.log_text.specs.Printing.{poolParts, partsText, longestLine, longestLog, Printed·text, Printed·bad, Printed·tooMany, Printed·tooLong, inFront, printRecords, print}
 use Rattle.log_printer.specs.declared.Printed.{Printed}
 use Rattle.log_printer.specs.declared.Printed.the-variants.{Text, Bad, TooLong, NoRoom}
-use Rattle.log_printer.specs.Printer.{outcome, printed, printLog}
+use Rattle.log_printer.specs.Printer.{printed, printLog}
 use Rattle.log_printer.specs.Steps.{measured, textIn, Room}
 use Rattle.log_printer.proofs.Printed.{the-type}
 use Rattle.log_text.proofs.Widths.{pool-short}
@@ -91,7 +92,7 @@ module _ {log : List ℕ} {n order place first : ℕ} (g : Started log n order p
   all = text g ∙ rw (v .same)
 
   pub print-short : length buf < m → outcome NoRoom buf ≡ printLog log buf
-  print-short h = rw (all, ← v .size, lt-leb m (length buf) h)
+  print-short h = rw all (fill-short Text NoRoom whole buf (omega (arith, v .size)))
 
   pub line-fits : m ≤ length buf → 0 + length (line g) ≤ length buf
   line-fits h = omega (arith, v .size, length-append (line g) (v .records))
@@ -111,5 +112,5 @@ module _ {log : List ℕ} {n order place first : ℕ} (g : Started log n order p
     pub print-done : {last : List ℕ} {end : ℕ} → Wrote after at (textIn (rest g)) last end → outcome (Text m) last ≡ printLog log buf
     print-done {last} {end} r =
         let done : Wrote buf 0 whole last end = writing-end (writing-next left [] (sym (append-nil (textIn (rest g)))) r) refl in
-        let parts : last ≡ whole ++ drop (length whole) buf = wrote-parts done (left .fits) ∙ rw (zero-add (length whole)) in
-        rw (all, ← v .size, le-leb m (length buf) fits, parts)
+        let size : m ≡ end = omega (arith, v .size, done .place) in
+        rw (all, size) (fill-done Text NoRoom whole buf (omega (arith, v .size)) done)

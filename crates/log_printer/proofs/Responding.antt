@@ -1,93 +1,64 @@
--- What `print_log` leaves, by its answer. Assumes nothing.
+-- What `respond` leaves, by the answer of `print_log`. Assumes nothing.
 use Prim.Native.Nat.{ℕ, _<_, _≤_}
-use mathlib.Core.Path.{_≡_, refl, sym, ap}
+use mathlib.Core.Path.{_≡_, refl, ap}
 use mathlib.Core.Bool.{Bool, true, false}
-use mathlib.Core.List.{List, [], _++_}
+use mathlib.Core.List.{List}
 use native.Mathlib.Omega.{arith}
-use lib.Dec.{leb}
-use lib.ListN.{length, drop}
-use borrow.Author.Tests.{le-leb, lt-leb}
-use Rattle.model.proofs.Tests.{by}
+use lib.ListN.{length}
 use Rattle.numbers.specs.Wrote.{Wrote}
-use Rattle.numbers.proofs.Wrote.{wrote-start}
-use Rattle.transcript.specs.Lines.{badLine, tooLongLine}
+use Rattle.numbers.specs.Fill.{outcome, Result·bytes, Result·refused, Responded}
+use Rattle.numbers.proofs.Fill.{response-short, Told, responded-done, responded-refused}
 use Rattle.log_text.specs.Printing as printing
 use Rattle.log_text.specs.Printing.{Printed·text, Printed·bad, Printed·tooMany, Printed·tooLong, print}
 use Rattle.log_text.proofs.Reading.{text-most}
 use Rattle.log_text.proofs.Theorems.{print-read}
 use Rattle.log_printer.specs.declared.Printed.{Printed}
 use Rattle.log_printer.specs.declared.Printed.the-variants.{Text, Bad, TooMany, TooLong, NoRoom}
-use Rattle.log_printer.specs.Printer.{outcome, printed, printLog}
-use Rattle.log_printer.specs.Response.{tooManyLine, responseTo, longestPrinted, Responded}
+use Rattle.log_printer.specs.Printer.{asText, printLog}
+use Rattle.log_printer.specs.Response.{refusalLine, longestPrinted, responseFor}
 
--- a buffer that is too short for some texts
-pub response-short : (log buf : List ℕ) → length buf < longestPrinted → Responded log buf buf 0
-response-short log buf h = record { wrote = rw (lt-leb longestPrinted (length buf) h) (record { place = refl; stored = refl }); inside = omega arith }
-
--- no text is too long for any other
+-- no text is too long
 printed-most : (log text : List ℕ) → print log ≡ Printed·text text → length text ≤ longestPrinted
 printed-most log text e = let p = print-read log text e in omega (arith, ap length (p .whole), text-most (p .source) (p .fits), p .fits .few)
 
--- a refusal of the log
-abbrev isRefusal : Printed → Bool
-isRefusal (Text n) = false
-isRefusal (Bad at) = true
-isRefusal TooMany = true
-isRefusal TooLong = true
-isRefusal NoRoom = false
+-- the log is refused
+abbrev refuses : Printed → Bool
+refuses (Text n) = false
+refuses (Bad at) = true
+refuses TooMany = true
+refuses TooLong = true
+refuses NoRoom = false
 
-module _ (log buf : List ℕ) (h : longestPrinted ≤ length buf) where
-  room : (bytes : List ℕ) → responseTo (print log) ≡ bytes → {after : List ℕ} {end : ℕ} → Wrote buf 0 bytes after end → end ≤ longestPrinted → Responded log buf after end
-  room bytes e w k = record { wrote = rw (le-leb longestPrinted (length buf) h, e) w; inside = omega arith }
+told : (log : List ℕ) → Told Text refuses longestPrinted (asText (print log))
+told log = record { stored = λ n. refl; refused = refused (print log); most = most (print log) refl }
+  where
+    refused : (p : printing.Printed) (a : Printed) → asText p ≡ Result·refused a → refuses a ≡ true
+    refused (Printed·text t) a e = let z : _≡_ {A = ℕ} 0 1 = cc in absurd (omega arith)
+    refused (Printed·bad at) a e = let same : Bad at ≡ a = cc in rw (← same)
+    refused Printed·tooMany a e = let same : TooMany ≡ a = cc in rw (← same)
+    refused Printed·tooLong a e = let same : TooLong ≡ a = cc in rw (← same)
 
-  module _ (after : List ℕ) where
-    text-written : (n : ℕ) (p : printing.Printed) → print log ≡ p → outcome (Text n) after ≡ printed p buf → Wrote buf 0 (responseTo p) after n × (n ≤ longestPrinted)
-    text-written n (Printed·text t) q e =
-        let fits : length t ≤ length buf = omega (arith, printed-most log t q) in
-        let f : outcome (Text n) after ≡ outcome (Text (length t)) (t ++ drop (length t) buf) = rw (le-leb (length t) (length buf) fits) at e in
-        let size : n ≡ length t = cc (ap (λ o. o .answer) f) in
-        let left : after ≡ t ++ drop (length t) buf = ap (λ o. o .buffer) f in
-        (rw (size, left) (wrote-start t buf fits), omega (arith, printed-most log t q))
-    text-written n (Printed·bad at) q e = let f = ap (λ o. o .answer) e in let z : _≡_ {A = ℕ} 0 1 = cc in absurd (omega arith)
-    text-written n Printed·tooMany q e = let f = ap (λ o. o .answer) e in let z : _≡_ {A = ℕ} 0 1 = cc in absurd (omega arith)
-    text-written n Printed·tooLong q e = let f = ap (λ o. o .answer) e in let z : _≡_ {A = ℕ} 0 1 = cc in absurd (omega arith)
+    most : (p : printing.Printed) → print log ≡ p → (s : List ℕ) → asText p ≡ Result·bytes s → length s ≤ longestPrinted
+    most (Printed·text t) q s e = let same : t ≡ s = cc in rw (← same) (printed-most log t q)
+    most (Printed·bad at) q s e = let z : _≡_ {A = ℕ} 0 1 = cc in absurd (omega arith)
+    most Printed·tooMany q s e = let z : _≡_ {A = ℕ} 0 1 = cc in absurd (omega arith)
+    most Printed·tooLong q s e = let z : _≡_ {A = ℕ} 0 1 = cc in absurd (omega arith)
 
-    pub response-text : (n : ℕ) → outcome (Text n) after ≡ printLog log buf → Responded log buf after n
-    response-text n e = let w = text-written n (print log) refl e in room (responseTo (print log)) refl (w .0) (w .1)
+-- a buffer that is too short for some
+pub response-small : (log buf : List ℕ) → length buf < longestPrinted → Responded (responseFor log buf) buf buf 0
+response-small log buf h = response-short longestPrinted refusalLine (asText (print log)) buf h
 
-    -- a text is no refusal
-    text-kept : {A : Type 0} (t : List ℕ) (a : Printed) → isRefusal a ≡ true → outcome a after ≡ printed (Printed·text t) buf → A
-    text-kept t a n e =
-        by (leb (length t) (length buf))
-        (λ s. let f = ap (λ o. isRefusal (o .answer)) (rw s at e) in let z : _≡_ {A = ℕ} 0 1 = cc in absurd (omega arith))
-        (λ s. let f = ap (λ o. isRefusal (o .answer)) (rw s at e) in let z : _≡_ {A = ℕ} 0 1 = cc in absurd (omega arith))
+module _ (log buf : List ℕ) (room : longestPrinted ≤ length buf) (after : List ℕ) where
+  pub response-text : (n : ℕ) → outcome (Text n) after ≡ printLog log buf → Responded (responseFor log buf) buf after n
+  response-text n e =
+      let d = responded-done (told log) NoRoom refusalLine buf room (Text n) after refl e in
+      let size = d .1 in
+      let same : n ≡ d .0 = cc in
+      rw same (d .2)
 
-    -- the line of a refusal
-    abbrev lineOf : Printed → List ℕ
-    lineOf (Text n) = []
-    lineOf (Bad at) = badLine at
-    lineOf TooMany = tooManyLine
-    lineOf TooLong = tooLongLine
-    lineOf NoRoom = []
+  module _ {last : List ℕ} {end : ℕ} where
+    pub response-refused : (a : Printed) → refuses a ≡ true → outcome a after ≡ printLog log buf → Wrote after 0 (refusalLine a) last end → length (refusalLine a) ≤ longestPrinted → Responded (responseFor log buf) buf last end
+    response-refused a k e w h = responded-refused (told log) NoRoom refusalLine buf room a after k e w h
 
-    refused-kept : (a : Printed) (p : printing.Printed) → isRefusal a ≡ true → outcome a after ≡ printed p buf → (responseTo p ≡ lineOf a) × (after ≡ buf)
-    refused-kept a (Printed·text t) n e = text-kept t a n e
-    refused-kept a (Printed·bad at) n e = (sym (ap (λ o. lineOf (o .answer)) e), ap (λ o. o .buffer) e)
-    refused-kept a Printed·tooMany n e = (sym (ap (λ o. lineOf (o .answer)) e), ap (λ o. o .buffer) e)
-    refused-kept a Printed·tooLong n e = (sym (ap (λ o. lineOf (o .answer)) e), ap (λ o. o .buffer) e)
-
-    no-room : {A : Type 0} (p : printing.Printed) → print log ≡ p → outcome NoRoom after ≡ printed p buf → A
-    no-room (Printed·text t) q e =
-        let fits : length t ≤ length buf = omega (arith, printed-most log t q) in
-        let f = ap (λ o. o .answer) (rw (le-leb (length t) (length buf) fits) at e) in
-        let z : _≡_ {A = ℕ} 0 1 = cc in absurd (omega arith)
-    no-room (Printed·bad at) q e = let f = ap (λ o. o .answer) e in let z : _≡_ {A = ℕ} 0 1 = cc in absurd (omega arith)
-    no-room Printed·tooMany q e = let f = ap (λ o. o .answer) e in let z : _≡_ {A = ℕ} 0 1 = cc in absurd (omega arith)
-    no-room Printed·tooLong q e = let f = ap (λ o. o .answer) e in let z : _≡_ {A = ℕ} 0 1 = cc in absurd (omega arith)
-
-    module _ {last : List ℕ} {end : ℕ} where
-      pub response-refused : (a : Printed) → isRefusal a ≡ true → outcome a after ≡ printLog log buf → Wrote after 0 (lineOf a) last end → length (lineOf a) ≤ 64 → Responded log buf last end
-      response-refused a n e w k = let r = refused-kept a (print log) n e in room (lineOf a) (r .0) (rw (r .1) at w) (omega (arith, w .place))
-
-      pub response-none : outcome NoRoom after ≡ printLog log buf → Responded log buf last end
-      response-none e = no-room (print log) refl e
+    pub response-none : outcome NoRoom after ≡ printLog log buf → Responded (responseFor log buf) buf last end
+    response-none e = let d = responded-done (told log) NoRoom refusalLine buf room NoRoom after refl e in let size = d .1 in let z : _≡_ {A = ℕ} 0 1 = cc in absurd (omega arith)

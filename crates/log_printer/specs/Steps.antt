@@ -1,22 +1,21 @@
 -- What the printer's steps answer: the contracts of the functions below `print_log`.
 use Prim.Native.Nat.{ℕ, _+_, _≤_}
 use mathlib.Core.Path.{_≡_}
-use mathlib.Core.Bool.{Bool, true, false}
-use mathlib.Core.List.{List, []}
+use mathlib.Core.Bool.{Bool, true}
+use mathlib.Core.List.{List}
 use lib.ListN.{length}
+use Rattle.numbers.specs.Fill.{answerOf, isBytes, bytesIn}
 use Rattle.log.specs.declared.Read.{Read}
 use Rattle.log.specs.declared.Read.the-variants as read
 use Rattle.log_text.specs.Printing as printing
-use Rattle.log_text.specs.Printing.{printRecords, Printed·text, Printed·bad, Printed·tooMany, Printed·tooLong}
+use Rattle.log_text.specs.Printing.{printRecords}
 use Rattle.log_printer.specs.declared.Printed.{Printed}
-use Rattle.log_printer.specs.declared.Printed.the-variants.{Text, Bad, TooMany, TooLong}
+use Rattle.log_printer.specs.declared.Printed.the-variants.{Text, Bad}
+use Rattle.log_printer.specs.Printer.{asText}
 
 -- m bytes and those of the text, if there is one
 abbrev pub measured : ℕ → printing.Printed → Printed
-measured m (Printed·text t) = Text (m + length t)
-measured m (Printed·bad at) = Bad at
-measured m Printed·tooMany = TooMany
-measured m Printed·tooLong = TooLong
+measured m p = answerOf (λ k. Text (m + k)) (asText p)
 
 -- what is answered at the place `at` and behind m bytes, where there is no record
 abbrev pub stopped : Read → (at m : ℕ) → Printed
@@ -24,18 +23,12 @@ stopped read.End at m = Text m
 stopped read.Bad at m = Bad at
 stopped (read.Taken r n) at m = Text m
 
--- the text, none where there is a refusal
 abbrev pub isText : printing.Printed → Bool
-isText (Printed·text t) = true
-isText (Printed·bad at) = false
-isText Printed·tooMany = false
-isText Printed·tooLong = false
+isText p = isBytes (asText p)
 
+-- the text, none where there is a refusal
 abbrev pub textIn : printing.Printed → List ℕ
-textIn (Printed·text t) = t
-textIn (Printed·bad at) = []
-textIn Printed·tooMany = []
-textIn Printed·tooLong = []
+textIn p = bytesIn (asText p)
 
 -- the records from a place of the log on have a text, and the buffer holds it from its place `at` on
 pub record Room (log : List ℕ) (place : ℕ) (buf : List ℕ) (at : ℕ) : Type 0 where

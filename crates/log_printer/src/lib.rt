@@ -1,8 +1,8 @@
 // The printer: the canonical text of a log is written into a lent buffer.
+use log::MOST_RECORDS;
 use log::Read;
 use log::Record;
 use log::Start;
-use log::writer::MOST_RECORDS;
 use log_text::Keyword;
 use log_text::LONGEST_LOG;
 use log_text::Parts;
@@ -12,10 +12,11 @@ ghost use mathlib.Core.Path.{_≡_};
 ghost use mathlib.Core.List.{_∷_};
 ghost use lib.ListN.{length};
 ghost use Rattle.numbers.specs.Wrote.{Wrote};
+ghost use Rattle.numbers.specs.Fill.{outcome};
 ghost use Rattle.text.specs.Decimal.{decimal};
 ghost use Rattle.log_text.specs.Form.{keywordText};
 ghost use Rattle.log_text.specs.Printing.{longestLine, parts, poolParts, partsOf, optionWords, flagWords, slotWords, spaced, partsText, printRecords};
-ghost use Rattle.log_printer.specs.Printer.{outcome, printLog};
+ghost use Rattle.log_printer.specs.Printer.{printLog};
 ghost use Rattle.log_printer.specs.Steps.{measured, stopped, textIn, Room};
 
 pub mod response;
@@ -130,7 +131,7 @@ fn parts_of(item: Record) -> Parts
 {
     match item {
         Record::Get(task, size, limit) => {
-            let field = log::writer::limit_field(limit);
+            let field = log::limit_field(limit);
             make_parts(Keyword::Get, task, size, field as u64, 0)
         }
         Record::Poll(task, size) => make_parts(Keyword::Poll, task, size, 0, 0),
@@ -138,7 +139,7 @@ fn parts_of(item: Record) -> Parts
         Record::Cancel(task) => make_parts(Keyword::Cancel, task, 0, 0, 0),
         Record::Tick => make_parts(Keyword::Tick, 0, 0, 0, 0),
         Record::PriorityGet(task, size, limit, priority) => {
-            let field = log::writer::limit_field(limit);
+            let field = log::limit_field(limit);
             make_parts(Keyword::Get, task, size, field as u64, priority as u64 + 1)
         }
         Record::PriorityPoll(task, size, priority) => {

@@ -11,7 +11,7 @@ use Rattle.model.proofs.Tests.{by}
 use Rattle.log.specs.declared.Record.{Record}
 use Rattle.log.specs.declared.Record.the-variants as record-of
 use Rattle.log.specs.Record.{limitOf, limitField}
-use Rattle.log.proofs.Forms.{take-four}
+use Rattle.log.proofs.Forms.{four, take-four}
 use Rattle.text.specs.declared.words.Numeral.{Numeral}
 use Rattle.text.specs.declared.words.Numeral.the-variants.{Value, TooLarge, Other}
 use Rattle.text.specs.Decimal.{decimal, valueOf, allDigits}
@@ -24,7 +24,7 @@ use Rattle.log_text.specs.declared.Slot.the-variants.{Number, Limit, Pri
 use Rattle.log_text.specs.declared.Line.{Line}
 use Rattle.log_text.specs.declared.Line.the-variants.{Blank, Pool, Call, Refused}
 use Rattle.log_text.specs.Form.{keywordText, limitText, priorityText, form, numberMost, limitMost}
-use Rattle.log_text.specs.Reading.{Taken, Taken·argument, Taken·refused, Arguments, Arguments·taken, Arguments·refused, byNumeral, takeNumber, plusOne, takeOption, takeWord, takeSlot, takeSlots, orderWith, lineFrom, made, keywordOf, lineBy, lineOf}
+use Rattle.log_text.specs.Reading.{Taken, Taken·argument, Taken·refused, Arguments, Arguments·taken, Arguments·refused, byNumeral, takeNumber, plusOne, takeOption, takeWord, takeSlot, takeSlots, orderWith, lineFrom, made, keywordOf, isKnown, lineBy, lineOf}
 use Rattle.log_text.specs.Printing.{poolParts, partsOf, optionWords, flagWords, slotWords, slotsWords, lineWords}
 use Rattle.log_text.specs.Canonical.{AllShortest}
 use Rattle.log_text.proofs.Slots.{form-few}
@@ -125,9 +125,6 @@ slots-take [] us = refl
 slots-take (s ∷ ss) [] = refl
 slots-take (s ∷ ss) (u ∷ us) = rw (slots-take ss us)
 
-abbrev four : List ℕ → List ℕ
-four vs = getD vs 0 0 ∷ getD vs 1 0 ∷ getD vs 2 0 ∷ getD vs 3 0 ∷ []
-
 slots-four : (k : Keyword) (vs : List ℕ) → length vs ≡ length (form k) → slotsWords (form k) (four vs) ≡ slotsWords (form k) vs
 slots-four k vs e = sym (slots-take (form k) (four vs)) ∙ rw (← e, take-four vs (omega (arith, form-few k)))
 
@@ -175,13 +172,10 @@ call-words k ws r e a =
     from-call k (getD (m .0) 0 0) (getD (m .0) 1 0) (getD (m .0) 2 0) (getD (m .0) 3 0) r (m .1) ∙ rw (m .2)
 
 by-call : (k : Keyword) (ws : List (List ℕ)) (r : Record) → lineBy true k ws ≡ Call r → AllShortest ws → lineWords (partsOf r) ≡ keywordText k ∷ ws
-by-call keyword.Pool ws r e a = call-words keyword.Pool ws r e a
-by-call keyword.Get ws r e a = call-words keyword.Get ws r e a
-by-call keyword.Poll ws r e a = call-words keyword.Poll ws r e a
-by-call keyword.Release ws r e a = call-words keyword.Release ws r e a
-by-call keyword.Cancel ws r e a = call-words keyword.Cancel ws r e a
-by-call keyword.Tick ws r e a = call-words keyword.Tick ws r e a
-by-call keyword.Unknown ws r e a = let z : _≡_ {A = ℕ} 0 1 = cc in absurd (omega arith)
+by-call k ws r e a =
+    by (isKnown k)
+    (λ h. call-words k ws r (rw h at e) a)
+    (λ h. let f = rw h at e in let z : _≡_ {A = ℕ} 0 1 = cc in absurd (omega arith))
 
 -- ---- with the first word
 
@@ -224,13 +218,10 @@ made-some k (Arguments·taken vs (u ∷ us)) e = let z : _≡_ {A = ℕ} 0 1 = c
 made-some k (Arguments·refused why) e = let z : _≡_ {A = ℕ} 0 1 = cc in omega arith
 
 by-some : (begun : Bool) (k : Keyword) (ws : List (List ℕ)) → lineBy begun k ws ≡ Blank → ⊥
-by-some begun keyword.Pool ws e = made-some keyword.Pool (takeSlots (form keyword.Pool) ws) e
-by-some begun keyword.Get ws e = made-some keyword.Get (takeSlots (form keyword.Get) ws) e
-by-some begun keyword.Poll ws e = made-some keyword.Poll (takeSlots (form keyword.Poll) ws) e
-by-some begun keyword.Release ws e = made-some keyword.Release (takeSlots (form keyword.Release) ws) e
-by-some begun keyword.Cancel ws e = made-some keyword.Cancel (takeSlots (form keyword.Cancel) ws) e
-by-some begun keyword.Tick ws e = made-some keyword.Tick (takeSlots (form keyword.Tick) ws) e
-by-some begun keyword.Unknown ws e = let z : _≡_ {A = ℕ} 0 1 = cc in omega arith
+by-some begun k ws e =
+    by (isKnown k)
+    (λ h. made-some k (takeSlots (form k) ws) (rw h at e))
+    (λ h. let f = rw h at e in let z : _≡_ {A = ℕ} 0 1 = cc in omega arith)
 
 pub words-some : (begun : Bool) (w : List ℕ) (ws : List (List ℕ)) → lineOf begun (w ∷ ws) ≡ Blank → ⊥
 unfolding lineOf

@@ -13,17 +13,17 @@ use Rattle.model.proofs.Tests.{by}
 use Rattle.numbers.specs.Number.{numberBound}
 use Rattle.log.specs.declared.Record.{Record}
 use Rattle.log.specs.Record.{Expressible}
-use Rattle.log.specs.Log.{AllExpressible, Log}
-use Rattle.log.specs.Writer.{mostRecords}
+use Rattle.log.specs.Log.{mostRecords, AllExpressible, Log}
+use Rattle.log.proofs.Forms.{four, four-at}
 use Rattle.text.specs.Words.{linesOf, wordsOf, same}
 use Rattle.log_text.specs.declared.Keyword.{Keyword}
 use Rattle.log_text.specs.declared.Keyword.the-variants as keyword
 use Rattle.log_text.specs.declared.Line.{Line}
 use Rattle.log_text.specs.declared.Line.the-variants.{Blank, Pool, Call, Refused}
-use Rattle.log_text.specs.declared.Slot.the-variants.{Number}
-use Rattle.log_text.specs.Form.{keywordText, form, slotMost, Bounded}
+use Rattle.log_text.specs.Form.{keywordText, form, Bounded}
 use Rattle.log_text.specs.Reading.{Arguments, Arguments·taken, Arguments·refused, takeSlots, orderWith, lineFrom, made, keywordOf, lineBy, lineOf, isBegun, recordCount, limited, lineAfter, withLine, Parsed, Parsed·log, atEnd, goOn, parseLines, longestText, parse}
 use Rattle.log_text.specs.Printing.{Printable}
+use Rattle.log_text.proofs.Slots.{form-few}
 use Rattle.log_text.proofs.Bounds.{slots-bounded, from-expressible}
 
 -- ---- what a line can say
@@ -56,24 +56,17 @@ module _ (l : Log) where
       rw e (by (ltb (length (l .records)) mostRecords) (λ k. rw k (h, ltb-true (length (l .records)) mostRecords k)) (λ k. rw k tt))
 
   -- the arguments at each place
-  four-bounded : (k : Keyword) (vs : List ℕ) → Bounded (form k) vs → length (form k) ≤ 4 → Bounded (form k) (getD vs 0 0 ∷ getD vs 1 0 ∷ getD vs 2 0 ∷ getD vs 3 0 ∷ [])
-  four-bounded k vs b h = record { most = at }
-    where
-      at : (i : ℕ) → i < length (form k) → getD (getD vs 0 0 ∷ getD vs 1 0 ∷ getD vs 2 0 ∷ getD vs 3 0 ∷ []) i 0 ≤ slotMost (getD (form k) i Number)
-      at zero g = b .most 0 g
-      at (suc zero) g = b .most 1 g
-      at (suc (suc zero)) g = b .most 2 g
-      at (suc (suc (suc zero))) g = b .most 3 g
-      at (suc (suc (suc (suc i)))) g = absurd (omega arith)
+  four-bounded : (k : Keyword) (vs : List ℕ) → Bounded (form k) vs → Bounded (form k) (four vs)
+  four-bounded k vs b = record { most = λ i h. rw (four-at vs i (omega (arith, form-few k))) (b .most i h) }
 
-  made-fits : (k : Keyword) (ws : List (List ℕ)) (x : Arguments) → takeSlots (form k) ws ≡ x → length (form k) ≤ 4
+  made-fits : (k : Keyword) (ws : List (List ℕ)) (x : Arguments) → takeSlots (form k) ws ≡ x
       → ((vs : List ℕ) → (r : Record) × (lineFrom k (getD vs 0 0) (getD vs 1 0) (getD vs 2 0) (getD vs 3 0) ≡ Call r)) → Fit (some l) (limited (length (l .records)) (made k x))
-  made-fits k ws (Arguments·taken vs []) e few call =
+  made-fits k ws (Arguments·taken vs []) e call =
       let c = call vs in
       call-fits (lineFrom k (getD vs 0 0) (getD vs 1 0) (getD vs 2 0) (getD vs 3 0)) (c .0) (c .1)
-      (from-expressible k (getD vs 0 0) (getD vs 1 0) (getD vs 2 0) (getD vs 3 0) (four-bounded k vs (slots-bounded (form k) ws vs [] e) few) (c .0) (c .1))
-  made-fits k ws (Arguments·taken vs (u ∷ us)) e few call = tt
-  made-fits k ws (Arguments·refused why) e few call = tt
+      (from-expressible k (getD vs 0 0) (getD vs 1 0) (getD vs 2 0) (getD vs 3 0) (four-bounded k vs (slots-bounded (form k) ws vs [] e)) (c .0) (c .1))
+  made-fits k ws (Arguments·taken vs (u ∷ us)) e call = tt
+  made-fits k ws (Arguments·refused why) e call = tt
 
 -- behind the pool line no word says a pool
 abbrev isPool : Keyword → Bool
@@ -95,11 +88,11 @@ no-pool w =
 
 known-fits : (l : Log) (k : Keyword) (ws : List (List ℕ)) → isPool k ≡ false → Fit (some l) (limited (length (l .records)) (lineBy true k ws))
 known-fits l keyword.Pool ws h = let z : _≡_ {A = ℕ} 0 1 = cc in absurd (omega arith)
-known-fits l keyword.Get ws h = made-fits l keyword.Get ws (takeSlots (form keyword.Get) ws) refl (omega arith) (λ vs. (_, refl))
-known-fits l keyword.Poll ws h = made-fits l keyword.Poll ws (takeSlots (form keyword.Poll) ws) refl (omega arith) (λ vs. (_, refl))
-known-fits l keyword.Release ws h = made-fits l keyword.Release ws (takeSlots (form keyword.Release) ws) refl (omega arith) (λ vs. (_, refl))
-known-fits l keyword.Cancel ws h = made-fits l keyword.Cancel ws (takeSlots (form keyword.Cancel) ws) refl (omega arith) (λ vs. (_, refl))
-known-fits l keyword.Tick ws h = made-fits l keyword.Tick ws (takeSlots (form keyword.Tick) ws) refl (omega arith) (λ vs. (_, refl))
+known-fits l keyword.Get ws h = made-fits l keyword.Get ws (takeSlots (form keyword.Get) ws) refl (λ vs. (_, refl))
+known-fits l keyword.Poll ws h = made-fits l keyword.Poll ws (takeSlots (form keyword.Poll) ws) refl (λ vs. (_, refl))
+known-fits l keyword.Release ws h = made-fits l keyword.Release ws (takeSlots (form keyword.Release) ws) refl (λ vs. (_, refl))
+known-fits l keyword.Cancel ws h = made-fits l keyword.Cancel ws (takeSlots (form keyword.Cancel) ws) refl (λ vs. (_, refl))
+known-fits l keyword.Tick ws h = made-fits l keyword.Tick ws (takeSlots (form keyword.Tick) ws) refl (λ vs. (_, refl))
 known-fits l keyword.Unknown ws h = tt
 
 words-fit : (x : Option Log) (ws : List (List ℕ)) → Fit x (limited (recordCount x) (lineOf (isBegun x) ws))

@@ -13,8 +13,7 @@ use Rattle.numbers.specs.Number.{numberBound}
 use Rattle.log.specs.declared.Record.{Record}
 use Rattle.log.specs.declared.Record.the-variants as record-of
 use Rattle.log.specs.Record.{limitOf, limitField, Expressible}
-use Rattle.log.specs.Log.{AllExpressible, Log}
-use Rattle.log.specs.Writer.{mostRecords}
+use Rattle.log.specs.Log.{mostRecords, AllExpressible, Log}
 use Rattle.log.proofs.Forms.{limit-field}
 use Rattle.text.specs.declared.words.Numeral.the-variants.{Value}
 use Rattle.text.specs.Decimal.{decimal}

@@ -14,8 +14,7 @@ use Rattle.log.specs.declared.Record.{Record}
 use Rattle.log.specs.declared.Read.{Read}
 use Rattle.log.specs.declared.Read.the-variants.{Taken, End, Bad}
 use Rattle.log.specs.Record.{recordOf}
-use Rattle.log.specs.Log.{recordsOf}
-use Rattle.log.specs.Writer.{mostRecords}
+use Rattle.log.specs.Log.{mostRecords, recordsOf}
 use Rattle.log.proofs.Theorems.{record-length}
 use Rattle.log.proofs.Logs.{records-ind}
 use Rattle.log_text.specs.Printing.{partsOf, partsText, recordsText, Printed, Printed·text, Printed·bad, Printed·tooMany, Printed·tooLong, inFront, printRecords}

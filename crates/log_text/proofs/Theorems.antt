@@ -11,8 +11,7 @@ use Rattle.model.proofs.Tests.{by}
 use Rattle.numbers.specs.Number.{Bytes}
 use Rattle.log.specs.declared.Start.{Start}
 use Rattle.log.specs.declared.Start.the-variants as start
-use Rattle.log.specs.Log.{logOf, startOf, Log, readLog}
-use Rattle.log.specs.Writer.{mostRecords}
+use Rattle.log.specs.Log.{mostRecords, startOf, Log, bytesOf, readLog}
 use Rattle.log.proofs.Logs.{whole}
 use Rattle.log.proofs.LogTheorems.{log-length, log-most, read-log, log-read, log-expressible}
 use Rattle.log_text.specs.Reading.{Parsed·log, parse}
@@ -76,17 +75,14 @@ parse-printable = lines.parse-sound
 
 -- in bytes it is a log that is read whole and can be printed
 module _ (l : Log) (p : Printable l) where
-  abbrev bytes : List ℕ
-  bytes = logOf (l .long) (l .order) (l .records)
-
-  pub printable-read : readLog bytes ≡ some l
+  pub printable-read : readLog (bytesOf l) ≡ some l
   printable-read = read-log (l .long) (l .order) (l .records) (p .small) (p .known) (p .all)
 
-  pub printable-short : length bytes ≤ longestLog
+  pub printable-short : length (bytesOf l) ≤ longestLog
   printable-short = omega (arith, log-length (l .long) (l .order) (l .records), log-most (l .long) (l .order) (l .records) (p .small) (p .all), p .few)
 
-  pub printable-print : print bytes ≡ Printed·text (textOf l)
-  printable-print = read-print bytes l printable-read printable-short (p .few)
+  pub printable-print : print (bytesOf l) ≡ Printed·text (textOf l)
+  printable-print = read-print (bytesOf l) l printable-read printable-short (p .few)
 
   -- the text of a log is read as that log
   pub parse-text : parse (textOf l) ≡ Parsed·log l
@@ -99,7 +95,7 @@ module _ (log text : List ℕ) (e : print log ≡ Printed·text text) where
   pub parse-printed : (l : Log) × (readLog log ≡ some l) × (parse text ≡ Parsed·log l)
   parse-printed = let p = print-read log text e in (p .source, p .read, ap parse (p .whole) ∙ parse-text (p .source) (p .fits))
 
-  pub log-again : Bytes log → (l : Log) × (parse text ≡ Parsed·log l) × (logOf (l .long) (l .order) (l .records) ≡ log)
+  pub log-again : Bytes log → (l : Log) × (parse text ≡ Parsed·log l) × (bytesOf l ≡ log)
   log-again b = let p = print-read log text e in (p .source, ap parse (p .whole) ∙ parse-text (p .source) (p .fits), log-read log (p .source) (p .read) b)
 
 -- what was read from canonical text is printed as that text
@@ -107,5 +103,5 @@ module _ (text : List ℕ) (l : Log) (c : Canonical text) (e : parse text ≡ Pa
   pub text-again : textOf l ≡ text
   text-again = text-printed text l c e
 
-  pub print-parsed : print (logOf (l .long) (l .order) (l .records)) ≡ Printed·text text
+  pub print-parsed : print (bytesOf l) ≡ Printed·text text
   print-parsed = printable-print l (parse-printable text l e) ∙ ap Printed·text text-again

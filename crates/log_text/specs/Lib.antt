@@ -2,3 +2,4 @@ pub mod Form
 pub mod Reading
 pub mod Printing
 pub mod Canonical
+pub mod Reasons

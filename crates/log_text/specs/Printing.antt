@@ -13,8 +13,7 @@ use Rattle.log.specs.declared.Start.{Start}
 use Rattle.log.specs.declared.Start.the-variants as start
 use Rattle.log.specs.declared.Read.the-variants as read
 use Rattle.log.specs.Record.{limitField, recordOf}
-use Rattle.log.specs.Log.{AllExpressible, startOf, Log}
-use Rattle.log.specs.Writer.{mostRecords}
+use Rattle.log.specs.Log.{mostRecords, AllExpressible, startOf, Log}
 use Rattle.text.specs.Decimal.{decimal}
 use Rattle.log_text.specs.declared.Keyword.{Keyword}
 use Rattle.log_text.specs.declared.Keyword.the-variants.{Pool, Get, Poll, Release, Cancel, Tick}

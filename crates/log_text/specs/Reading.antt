@@ -10,8 +10,7 @@ use Rattle.model.specs.Limits.{fifo-order, priority-order}
 use Rattle.log.specs.declared.Record.{Record}
 use Rattle.log.specs.declared.Record.the-variants as record-of
 use Rattle.log.specs.Record.{limitOf}
-use Rattle.log.specs.Log.{Log}
-use Rattle.log.specs.Writer.{mostRecords}
+use Rattle.log.specs.Log.{mostRecords, Log}
 use Rattle.text.specs.declared.words.Numeral.{Numeral}
 use Rattle.text.specs.declared.words.Numeral.the-variants.{Value, TooLarge, Other}
 use Rattle.text.specs.Words.{linesOf, wordsOf, same, numeralOf}
@@ -132,14 +131,17 @@ abbrev pub unknown : Bool → Why
 unknown false = NoPoolLine
 unknown true = UnknownWord
 
+abbrev pub isKnown : Keyword → Bool
+isKnown keyword.Pool = true
+isKnown keyword.Get = true
+isKnown keyword.Poll = true
+isKnown keyword.Release = true
+isKnown keyword.Cancel = true
+isKnown keyword.Tick = true
+isKnown keyword.Unknown = false
+
 abbrev pub lineBy : Bool → Keyword → List (List ℕ) → Line
-lineBy begun keyword.Pool ws = made keyword.Pool (takeSlots (form keyword.Pool) ws)
-lineBy begun keyword.Get ws = made keyword.Get (takeSlots (form keyword.Get) ws)
-lineBy begun keyword.Poll ws = made keyword.Poll (takeSlots (form keyword.Poll) ws)
-lineBy begun keyword.Release ws = made keyword.Release (takeSlots (form keyword.Release) ws)
-lineBy begun keyword.Cancel ws = made keyword.Cancel (takeSlots (form keyword.Cancel) ws)
-lineBy begun keyword.Tick ws = made keyword.Tick (takeSlots (form keyword.Tick) ws)
-lineBy begun keyword.Unknown ws = Refused (unknown begun)
+lineBy begun k ws = cond (isKnown k) (made k (takeSlots (form k) ws)) (Refused (unknown begun))
 
 -- what the words of a line say, before the pool line and behind it
 unfoldable pub lineOf : Bool → List (List ℕ) → Line

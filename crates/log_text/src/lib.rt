@@ -1,8 +1,11 @@
 // The text form of a log: the words of its lines, and what stands behind each.
 use log::Record;
+ghost use Prim.Native.Nat.{_+_, _≤_};
 ghost use mathlib.Core.Path.{_≡_};
 ghost use lib.ListN.{length, getD};
+ghost use Rattle.numbers.specs.Wrote.{Wrote};
 ghost use Rattle.log_text.specs.Form.{form};
+ghost use Rattle.log_text.specs.Reasons.{whyText};
 
 // The first word of a line.
 pub enum Keyword {
@@ -120,5 +123,20 @@ fn priority_at(i: usize) -> Slot
     match i {
         2 => Slot::Priority,
         _ => Slot::Number,
+    }
+}
+
+// Writes why a line is refused, from the place `at` of buf on, and answers the place after it.
+pub fn put_why(buf: &mut [u8], at: usize, why: Why) -> usize
+    requires { ⌜ at + length (whyText why) ≤ length (now buf) ⌝ }
+    ensures { λ r. ⌜ Wrote (now (buf .entry)) at (whyText why) (now (buf .exit)) r ⌝ }
+{
+    match why {
+        Why::UnknownWord => text::put_text(buf, at, b"unknown word\n"),
+        Why::MissingNumber => text::put_text(buf, at, b"missing number\n"),
+        Why::NumberTooLarge => text::put_text(buf, at, b"number too large\n"),
+        Why::TooManyNumbers => text::put_text(buf, at, b"too many numbers\n"),
+        Why::NoPoolLine => text::put_text(buf, at, b"no pool line\n"),
+        Why::TooManyRecords => text::put_text(buf, at, b"more than 4,096 records\n"),
     }
 }

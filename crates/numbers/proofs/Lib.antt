@@ -5,3 +5,4 @@ pub mod Examples
 pub mod Reading
 pub mod Wrote
 pub mod Writing
+pub mod Fill

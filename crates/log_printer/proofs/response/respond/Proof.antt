@@ -7,12 +7,12 @@ use borrow.Author.Needs.{needs}
 use Rattle.transcript.specs.Lines.{badLine}
 use Rattle.transcript.proofs.Theorems.{length-bad}
 use Rattle.log_printer.specs.declared.Printed.the-variants.{Bad, TooMany, TooLong}
-use Rattle.log_printer.proofs.Responding.{response-short, response-text, response-refused, response-none}
+use Rattle.log_printer.proofs.Responding.{response-small, response-text, response-refused, response-none}
 use Rattle.log_printer.proofs.response.respond.Statement.{statement}
 use Rattle.log_printer.proofs.response.respond.Tie as tie
 
 returns : tie.Need-returns
-returns c = response-short _ _ (c .if1 .taken)
+returns c = response-small _ _ (c .if1 .taken)
 
 returns-2 : tie.Need-returns-2
 returns-2 c = response-text _ _ (c .before .before .before .before .before .before .before .if1 .left) _ _ (rw (c .before .printed .given .1) at (c .before .before .before .before .before .print-log .ensures))
@@ -24,7 +24,7 @@ returns-3 c =
     response-refused _ _ (c .before .before .before .before .before .before .before .before .before .before .before .if1 .left) _ (Bad place) refl (rw (c .before .before .before .before .before .printed2 .given .1) at (c .before .before .before .before .before .before .before .before .before .print-log .ensures)) (c .before .before .bad-line .ensures) (omega arith)
 
 returns-4 : tie.Need-returns-4
-returns-4 c = response-refused _ _ (c .before .before .before .before .before .before .before .before .before .before .before .if1 .left) _ TooMany refl (rw (c .before .before .before .before .before .enum-told .given .1) at (c .before .before .before .before .before .before .before .before .before .print-log .ensures)) (c .before .before .put-text .ensures) (omega arith)
+returns-4 c = response-refused _ _ (c .before .before .before .before .before .before .before .before .before .before .if1 .left) _ TooMany refl (rw (c .before .before .before .before .enum-told .given .1) at (c .before .before .before .before .before .before .before .before .print-log .ensures)) (c .before .before .put-why .ensures) (omega arith)
 
 returns-5 : tie.Need-returns-5
 returns-5 c = response-refused _ _ (c .before .before .before .before .before .before .before .before .before .before .if1 .left) _ TooLong refl (rw (c .before .before .before .before .enum-told2 .given .1) at (c .before .before .before .before .before .before .before .before .print-log .ensures)) (c .before .before .too-long-line .ensures) (omega arith)
@@ -41,7 +41,6 @@ respond-spec =
     (λ c. search needs)
     (λ c. search needs)
     (λ c κs. search needs)
-    (λ c. search needs)
     (λ c. search needs)
     (λ c κs. search needs)
     (λ c. search needs)

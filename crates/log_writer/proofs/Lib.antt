@@ -1,0 +1,5 @@
+pub mod Counting
+pub mod Rows
+pub mod Writing
+pub mod Theorems
+pub mod Examples
