@@ -44,10 +44,12 @@ use Rattle.queue.specs.declared.Ticked.{Ticked}
 use Rattle.queue.specs.Entries.{tickedOf}
 use Rattle.queue.proofs.Places.{sets-behind}
 use Rattle.queue.proofs.Entries.{head-task}
-use Rattle.pool.specs.declared.state.Reason.{Reason}
-use Rattle.pool.specs.Steps.{rulesIn, refusal, misplacedIn, reasonOf, servedAs, Ready}
-use Rattle.pool.proofs.Inspecting.{Told, called-refused, called-done, kept-bytes}
-use Rattle.pool.proofs.Serves.{Shown, shown}
+use Rattle.pool.specs.declared.reason.Reason.{Reason}
+use Rattle.state.specs.State.{rulesIn, refusal}
+use Rattle.serving.specs.Serving.{servedAs, Ready}
+use Rattle.pool.specs.Steps.{misplacedIn, reasonOf}
+use Rattle.state.proofs.Inspecting.{Told, called-refused, called-done, kept-bytes}
+use Rattle.serving.proofs.Serves.{Shown, shown}
 
 -- ---- before and after the queue is served
 

@@ -32,8 +32,9 @@ use Rattle.model.proofs.Pool.{by-unsound, by-done}
 use Rattle.model.proofs.Fates.{wake-pad, entry-waits}
 use Rattle.model.proofs.Theorems.{pool-attributes-kept, pool-call-sound, pool-run-sound, pool-refusal-keeps, pool-refusal-when, pool-release-refused-when, pool-done-no-reason, pool-release-refused-live, pool-release-place, pool-call-seen, fifo-cancel-no-trace, pool-cancel-no-trace, pool-release-undoes, pool-timeout, pool-unlimited, fifo-never-passed, pool-never-passed, fifo-wait-bound, pool-wait-bound}
 pub use Rattle.model.proofs.Theorems.{kind-number, top-kind, pool-rounds, pool-sizes-asked, pool-priorities-asked, pool-best-first, pool-blocks-of-render, pool-render-of-blocks, pool-entries-of-queue, pool-queue-of-entries, pool-woken-fit, pool-bound-reached}
-use Rattle.pool.specs.Steps.{rulesIn, refusal, refusedIn}
-use Rattle.pool.proofs.Inspecting.{State as Parts, open-state, kept-unsound, called-refused, called-done, kept-bytes, kept-queue}
+use Rattle.state.specs.State.{rulesIn, refusal}
+use Rattle.pool.specs.Steps.{refusedIn}
+use Rattle.state.proofs.Inspecting.{State as Parts, open-state, kept-unsound, called-refused, called-done, kept-bytes, kept-queue}
 
 -- ---- demand 1, for any bytes, queue and numbers
 

@@ -24,11 +24,9 @@ use request::Verdict;
 ghost use mathlib.Core.Path.{_≡_};
 ghost use Rattle.model.specs.Calls as calls;
 ghost use Rattle.model.specs.Pool.{result, created, called, inquired};
-ghost use Rattle.pool.specs.Steps.{request};
+ghost use Rattle.request.specs.Request.{request};
 
-mod request;
-mod serving;
-mod state;
+mod reason;
 
 // One free run of all bytes, and an empty queue that keeps the attributes.
 pub fn create(pool: &mut [u8], attributes: Attributes) -> Answer
@@ -89,7 +87,7 @@ pub fn release(pool: &mut [u8], queue: Queue, offset: BlockOffset) -> Answer
     let Found::At(spot) = found else {
         return state::refuse_for(E_PAR, OUT_OF_RANGE, HeaderPlace(0), queue);
     };
-    let why = state::reason_of(pool, offset, spot);
+    let why = reason::reason_of(pool, offset, spot);
     if why.0 != 0 {
         return state::refuse_for(E_PAR, why.0, why.1, queue);
     }

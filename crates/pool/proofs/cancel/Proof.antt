@@ -18,8 +18,8 @@ use Rattle.layout.specs.declared.Target.the-variants as target
 use Rattle.layout.specs.declared.Surveyed.{Surveyed}
 use Rattle.queue.specs.declared.Slot.the-variants as slot
 use Rattle.queue.proofs.Entries.{Found, found-nothing, found-at}
-use Rattle.pool.specs.Steps.{rulesIn}
-use Rattle.pool.proofs.Inspecting.{Told, told, told-small, unsound, called-unsound}
+use Rattle.state.specs.State.{rulesIn}
+use Rattle.state.proofs.Inspecting.{Told, told, told-small, unsound, called-unsound}
 use Rattle.pool.proofs.Changing.{cancel-unknown, cancel-idle, cancel-ready, cancel-done}
 use Rattle.pool.proofs.cancel.Statement.{statement}
 use Rattle.pool.proofs.cancel.Tie as tie

@@ -15,9 +15,10 @@ use Rattle.model.specs.declared.Queue.{Queue}
 use Rattle.model.specs.Calls.{Request}
 use Rattle.layout.specs.declared.Target.the-variants as target
 use Rattle.layout.specs.declared.Surveyed.{Surveyed}
-use Rattle.pool.specs.Steps.{rulesIn, request, entry, asked, judged, inspected, Fair}
-use Rattle.pool.proofs.Inspecting.{Told, told, unsound, called-unsound}
-use Rattle.pool.proofs.Judging.{get-refused, get-admitted, get-fair, fair-small}
+use Rattle.state.specs.State.{rulesIn, inspected}
+use Rattle.request.specs.Request.{request, entry, asked, judged, Fair}
+use Rattle.state.proofs.Inspecting.{Told, told, unsound, called-unsound}
+use Rattle.request.proofs.Judging.{get-refused, get-admitted, get-fair, fair-small}
 use Rattle.pool.proofs.get.Statement.{statement}
 use Rattle.pool.proofs.get.Tie as tie
 

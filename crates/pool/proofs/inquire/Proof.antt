@@ -2,7 +2,7 @@
 use borrow.Author.Tests.{not-true, not-false}
 use borrow.Author.Needs.{needs}
 use Rattle.layout.specs.declared.Target.the-variants as target
-use Rattle.pool.proofs.Inspecting.{told, unsound}
+use Rattle.state.proofs.Inspecting.{told, unsound}
 use Rattle.pool.proofs.Changing.{inquire-unsound, inquire-done}
 use Rattle.pool.proofs.inquire.Statement.{statement}
 use Rattle.pool.proofs.inquire.Tie as tie

@@ -16,7 +16,7 @@ use Rattle.layout.specs.declared.Target.the-variants as target
 use Rattle.layout.specs.declared.Found.the-variants as found
 use Rattle.layout.specs.declared.Surveyed.{Surveyed}
 use Rattle.pool.specs.Steps.{misplacedIn}
-use Rattle.pool.proofs.Inspecting.{Told, told, told-small, unsound, called-unsound}
+use Rattle.state.proofs.Inspecting.{Told, told, told-small, unsound, called-unsound}
 use Rattle.pool.proofs.Changing.{reason-nowhere, reason-told, reason-none, release-refused, releasable, release-ready, release-done}
 use Rattle.pool.proofs.release.Statement.{statement}
 use Rattle.pool.proofs.release.Tie as tie

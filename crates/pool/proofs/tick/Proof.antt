@@ -10,7 +10,7 @@ use Rattle.model.specs.Pool.{result}
 use Rattle.model.specs.declared.Queue.{Queue}
 use Rattle.layout.specs.declared.Target.the-variants as target
 use Rattle.layout.specs.declared.Surveyed.{Surveyed}
-use Rattle.pool.proofs.Inspecting.{Told, told, told-small, unsound, called-unsound}
+use Rattle.state.proofs.Inspecting.{Told, told, told-small, unsound, called-unsound}
 use Rattle.pool.proofs.Changing.{tick-ready, tick-done, tick-none}
 use Rattle.pool.proofs.tick.Statement.{statement}
 use Rattle.pool.proofs.tick.Tie as tie
