@@ -3,7 +3,6 @@
 use model::Attributes;
 use model::FIFO_ORDER;
 use numbers::Number;
-use player::stages;
 
 // The choice in 16 bits; one that has more is as unknown as their greatest.
 fn choice(number: u32) -> u16 {

@@ -1,4 +1,2 @@
 pub mod Waking
 pub mod Stepping
-pub mod Playing
-pub mod Beginning

@@ -15,8 +15,6 @@ ghost use Rattle.transcript.specs.Lines.{longestLine};
 ghost use Rattle.transcript.specs.Transcript.{callOf};
 ghost use Rattle.player.specs.Steps.{lastText, longestStep, Stepped};
 
-pub mod stages;
-
 // The most bytes of a step's text: the line of the answer and a line for each task.
 pub const LONGEST_STEP: usize = 1505;
 

@@ -1,6 +1,5 @@
 // Replays a log of calls from standard input on a pool of zeros, and writes its text to standard output.
 use model::DEFAULTS;
-use player::stages;
 
 fn main() {
     let mut input = [0u8; 65537];

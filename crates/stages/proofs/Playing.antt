@@ -22,10 +22,10 @@ use Rattle.log.proofs.Theorems.{record-length}
 use Rattle.transcript.specs.Lines.{longestLine}
 use Rattle.transcript.specs.Transcript.{answerText, recordsText}
 use Rattle.transcript.proofs.Theorems.{records-end, records-bad, records-taken}
 use Rattle.player.specs.declared.Progress.{Progress}
 use Rattle.player.specs.Steps.{replyTo, lastText, longestStep, Stepped}
-use Rattle.player.specs.declared.stages.Stage.{Stage}
-use Rattle.player.specs.Stages.{textSpace, Ready, Played}
+use Rattle.stages.specs.declared.Stage.{Stage}
+use Rattle.stages.specs.Stages.{textSpace, Ready, Played}
 
 -- at a turn: q is the queue, l the pool, `at` the place in the log
 pub record Playing (log : List ℕ) (q₀ : Queue) (at₀ count₀ end₀ : ℕ) (l₀ text₀ l text : List ℕ) (q : Queue) (at count end : ℕ) : Type 0 where

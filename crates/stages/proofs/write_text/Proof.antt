@@ -1,13 +1,13 @@
--- `player::stages::write_text` is safe and ends: each stage that is not the last has taken a record. Assumes nothing.
+-- `stages::write_text` is safe and ends: each stage that is not the last has taken a record. Assumes nothing.
 use Prim.Native.Nat.{_-_}
 use mathlib.Core.Path.{_≡_, refl, _∙_}
 use native.Mathlib.Omega.{arith}
 use lib.ListN.{length}
 use borrow.Author.Needs.{needs}
 use Rattle.numbers.proofs.Wrote.{wrote-length}
-use Rattle.player.specs.Stages.{Ready}
-use Rattle.player.proofs.stages.write_text.Statement.{statement}
-use Rattle.player.proofs.stages.write_text.Tie as tie
+use Rattle.stages.specs.Stages.{Ready}
+use Rattle.stages.proofs.write_text.Statement.{statement}
+use Rattle.stages.proofs.write_text.Tie as tie
 
 abbrev Inv-loop : tie.InvT-loop
 Inv-loop log pool₀ text₀ stage₀ pool text stage = (length pool ≡ length pool₀) × (length text ≡ length text₀) × Ready log text stage

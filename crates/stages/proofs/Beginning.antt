@@ -21,7 +21,7 @@ use Rattle.log.specs.Log.{startOf}
 use Rattle.transcript.specs.Lines.{poolLine, longestLine}
 use Rattle.transcript.specs.Transcript.{longestLog, recordsText, freshPool, transcriptOf}
 use Rattle.transcript.proofs.Theorems.{freshPool-code, transcript-pool}
-use Rattle.player.specs.Stages.{textSpace, Lent}
+use Rattle.stages.specs.Stages.{textSpace, Lent}
 
 -- what was written at the start of a buffer
 written : {l m s : List ℕ} {next : ℕ} → Wrote l 0 s m next → length s ≤ length l → take next m ≡ s

@@ -1,16 +1,16 @@
 // The text of a whole log, gathered in stages and written to standard output.
-use crate::LONGEST_STEP;
 use log::LONGEST_LOG;
 use log::Read;
 use log::Start;
 use model::Attributes;
 use model::LONGEST_POOL;
 use model::Queue;
+use player::LONGEST_STEP;
 ghost use Prim.Native.Nat.{_≤_};
 ghost use mathlib.Core.Path.{_≡_};
 ghost use lib.ListN.{length, take};
 ghost use Rattle.transcript.specs.Transcript.{longestLog};
-ghost use Rattle.player.specs.Stages.{textSpace, Ready, Begun, Lent, Played};
+ghost use Rattle.stages.specs.Stages.{textSpace, Ready, Begun, Lent, Played};
 
 // The bytes of text that are gathered before they are written.
 const TEXT_SPACE: usize = 65536;
@@ -43,7 +43,7 @@ fn play(log: &[u8], from: Stage, pool: &mut [u8], text: &mut [u8]) -> Stage
     while end <= TEXT_SPACE - LONGEST_STEP {
         let read = log::read_record(&log[at..]);
         let Read::Taken(made, size) = read else {
-            let last = crate::last(read, at, count, text, end);
+            let last = player::last(read, at, count, text, end);
             return Stage {
                 at: at,
                 count: count,
@@ -52,7 +52,7 @@ fn play(log: &[u8], from: Stage, pool: &mut [u8], text: &mut [u8]) -> Stage
                 queue: queue,
             };
         };
-        let done = crate::step(pool, queue, made, text, end);
+        let done = player::step(pool, queue, made, text, end);
         queue = done.queue;
         end = done.end;
         at += size;

@@ -1,10 +1,10 @@
--- `player::stages::flush` is safe: the part that it writes lies within the text. Assumes nothing.
+-- `stages::flush` is safe: the part that it writes lies within the text. Assumes nothing.
 use mathlib.Core.Path.{sym}
 use lib.Seq.{length-take-le}
 use denote.Ref.{now}
 use borrow.Author.Needs.{needs}
-use Rattle.player.proofs.stages.flush.Statement.{statement}
-use Rattle.player.proofs.stages.flush.Tie as tie
+use Rattle.stages.proofs.flush.Statement.{statement}
+use Rattle.stages.proofs.flush.Tie as tie
 
 slice-aggregate-write-all : tie.Need-slice-aggregate-write-all
 slice-aggregate-write-all c = sym (length-take-le (c .before .before .args .end) (now (c .before .before .args .text)) (c .before .before .pre))

@@ -1,10 +1,10 @@
--- `player::stages::lend` is safe: the pool is the first n bytes of the buffer. Assumes nothing.
+-- `stages::lend` is safe: the pool is the first n bytes of the buffer. Assumes nothing.
 use Prim.Native.Nat.{_-_}
 use mathlib.Core.Path.{_≡_}
 use native.Mathlib.Omega.{arith}
 use borrow.Author.Needs.{needs}
-use Rattle.player.proofs.stages.lend.Statement.{statement}
-use Rattle.player.proofs.stages.lend.Tie as tie
+use Rattle.stages.proofs.lend.Statement.{statement}
+use Rattle.stages.proofs.lend.Tie as tie
 
 run-requires : tie.Need-run-requires
 run-requires c κs =

@@ -1,4 +1,4 @@
--- `player::stages::play` meets its contract: each turn of its loop keeps `Playing`. Assumes nothing.
+-- `stages::play` meets its contract: each turn of its loop keeps `Playing`. Assumes nothing.
 use Prim.Native.Nat.{_-_}
 use mathlib.Core.Path.{_≡_, refl, _∙_, sym}
 use native.Mathlib.Omega.{arith}
@@ -9,9 +9,9 @@ use Rattle.log.specs.Record.{recordOf}
 use Rattle.log.proofs.Reading.{suffix}
 use Rattle.log.proofs.Theorems.{record-length}
 use Rattle.numbers.proofs.Wrote.{wrote-length}
-use Rattle.player.proofs.Playing.{Playing, playing-starts, playing-taken, playing-last, playing-full}
-use Rattle.player.proofs.stages.play.Statement.{statement}
-use Rattle.player.proofs.stages.play.Tie as tie
+use Rattle.stages.proofs.Playing.{Playing, playing-starts, playing-taken, playing-last, playing-full}
+use Rattle.stages.proofs.play.Statement.{statement}
+use Rattle.stages.proofs.play.Tie as tie
 
 abbrev Inv-loop : tie.InvT-loop
 Inv-loop log pool₀ text₀ queue₀ at₀ count₀ end₀ pool text queue at count end =

@@ -1,4 +1,4 @@
--- `player::stages::begin` is safe: the start lies within the log, and the pool within its buffer. Assumes nothing.
+-- `stages::begin` is safe: the start lies within the log, and the pool within its buffer. Assumes nothing.
 use Prim.Native.Nat.{_≤_}
 use mathlib.Core.Path.{sym, _∙_}
 use native.Mathlib.Omega.{arith}
@@ -6,9 +6,9 @@ use borrow.Author.Needs.{needs}
 use Rattle.model.specs.declared.Attributes.{Attributes}
 use Rattle.numbers.proofs.Wrote.{wrote-length}
 use Rattle.transcript.proofs.Theorems.{length-bad}
-use Rattle.player.proofs.Beginning.{lent}
-use Rattle.player.proofs.stages.begin.Statement.{statement}
-use Rattle.player.proofs.stages.begin.Tie as tie
+use Rattle.stages.proofs.Beginning.{lent}
+use Rattle.stages.proofs.begin.Statement.{statement}
+use Rattle.stages.proofs.begin.Tie as tie
 
 flush-requires : tie.Need-flush-requires
 flush-requires c κs =

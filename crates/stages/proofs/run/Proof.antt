@@ -1,4 +1,4 @@
--- `player::stages::run` is safe: the line `pool N` leaves room for a step. Assumes nothing.
+-- `stages::run` is safe: the line `pool N` leaves room for a step. Assumes nothing.
 use mathlib.Core.Path.{refl, _∙_}
 use native.Mathlib.Omega.{arith}
 use lib.ListN.{length}
@@ -6,9 +6,9 @@ use borrow.Author.Needs.{needs}
 use Rattle.numbers.proofs.Wrote.{wrote-length}
 use Rattle.log.proofs.Starts as starts
 use Rattle.transcript.proofs.Theorems.{length-pool}
-use Rattle.player.proofs.Beginning.{begun}
-use Rattle.player.proofs.stages.run.Statement.{statement}
-use Rattle.player.proofs.stages.run.Tie as tie
+use Rattle.stages.proofs.Beginning.{begun}
+use Rattle.stages.proofs.run.Statement.{statement}
+use Rattle.stages.proofs.run.Tie as tie
 
 write-text-requires : tie.Need-write-text-requires
 write-text-requires c κs =

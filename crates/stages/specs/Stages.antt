@@ -11,7 +11,7 @@ use Rattle.log.specs.declared.Start.the-variants as start
 use Rattle.log.specs.Log.{startOf}
 use Rattle.transcript.specs.Lines.{longestLine}
 use Rattle.transcript.specs.Transcript.{longestLog, recordsText, transcriptOf}
-use Rattle.player.specs.declared.stages.Stage.{Stage}
+use Rattle.stages.specs.declared.Stage.{Stage}
 
 -- the bytes of the buffer for text
 abbrev pub textSpace : ℕ
