@@ -9,8 +9,8 @@ use lib.ListN.{length, take, drop, getD, length-append, length-drop, drop-of-len
 use lib.Seq.{take-add, drop-cons, getD-drop, drop-append-seam}
 use Rattle.numbers.specs.declared.Number.{Number}
 use Rattle.numbers.specs.declared.Number.the-variants.{Value, Refused}
-use Rattle.numbers.specs.Number.{Bytes, numberBound, numberOf, encode}
-use Rattle.numbers.proofs.Theorems.{number-encode, encode-number, number-small, number-within, number-five, encode-length}
+use Rattle.numbers.specs.Number.{Bytes, numberOf, encode}
+use Rattle.numbers.proofs.Theorems.{number-encode, encode-number, number-small, number-within, number-five}
 use Rattle.log.specs.Fields.{Fields, Fields·read, Fields·refused, before, first, readFields, encodeFields, fieldsLength, Small}
 
 pub before-before : (xs : List ℕ) (a : ℕ) (ys : List ℕ) (b : ℕ) (r : Fields) → before xs a (before ys b r) ≡ before (xs ++ ys) (a + b) r

@@ -6,7 +6,7 @@ use mathlib.Core.List.{List, [], _∷_, _++_, append-assoc}
 use native.Mathlib.Omega.{arith}
 use lib.ListN.{length}
 use Rattle.numbers.specs.Wrote.{Wrote}
-use Rattle.numbers.specs.Fill.{outcome, Result·bytes, Result·refused, Responded}
+use Rattle.numbers.specs.Fill.{outcome, Content·bytes, Content·refused, Responded}
 use Rattle.numbers.proofs.Fill.{response-short, Told, responded-done, responded-refused}
 use Rattle.log.specs.Log.{bytesOf}
 use Rattle.text.specs.Decimal.{decimal, around}
@@ -45,12 +45,12 @@ refuses NoRoom = false
 told : (text : List ℕ) → Told variant.Log refuses longestLog (asLog (parse text))
 told text = record { stored = λ n. refl; refused = refused (parse text); most = most (parse text) refl }
   where
-    refused : (p : reading.Parsed) (a : answer.Parsed) → asLog p ≡ Result·refused a → refuses a ≡ true
+    refused : (p : reading.Parsed) (a : answer.Parsed) → asLog p ≡ Content·refused a → refuses a ≡ true
     refused (Parsed·log l) a e = let z : _≡_ {A = ℕ} 0 1 = cc in absurd (omega arith)
     refused (Parsed·refused k why) a e = let same : Refused k why ≡ a = cc in rw (← same)
     refused Parsed·tooLong a e = let same : TooLong ≡ a = cc in rw (← same)
 
-    most : (p : reading.Parsed) → parse text ≡ p → (s : List ℕ) → asLog p ≡ Result·bytes s → length s ≤ longestLog
+    most : (p : reading.Parsed) → parse text ≡ p → (s : List ℕ) → asLog p ≡ Content·bytes s → length s ≤ longestLog
     most (Parsed·log l) q s e = let same : bytesOf l ≡ s = cc in rw (← same) (printable-short l (parse-printable text l q))
     most (Parsed·refused k why) q s e = let z : _≡_ {A = ℕ} 0 1 = cc in absurd (omega arith)
     most Parsed·tooLong q s e = let z : _≡_ {A = ℕ} 0 1 = cc in absurd (omega arith)

@@ -4,3 +4,4 @@ pub mod Measuring
 pub mod Putting
 pub mod Printing
 pub mod Responding
+pub mod Places

@@ -6,7 +6,7 @@ use mathlib.Core.List.{List}
 use native.Mathlib.Omega.{arith}
 use lib.ListN.{length}
 use Rattle.numbers.specs.Wrote.{Wrote}
-use Rattle.numbers.specs.Fill.{outcome, Result·bytes, Result·refused, Responded}
+use Rattle.numbers.specs.Fill.{outcome, Content·bytes, Content·refused, Responded}
 use Rattle.numbers.proofs.Fill.{response-short, Told, responded-done, responded-refused}
 use Rattle.log_text.specs.Printing as printing
 use Rattle.log_text.specs.Printing.{Printed·text, Printed·bad, Printed·tooMany, Printed·tooLong, print}
@@ -32,13 +32,13 @@ refuses NoRoom = false
 told : (log : List ℕ) → Told Text refuses longestPrinted (asText (print log))
 told log = record { stored = λ n. refl; refused = refused (print log); most = most (print log) refl }
   where
-    refused : (p : printing.Printed) (a : Printed) → asText p ≡ Result·refused a → refuses a ≡ true
+    refused : (p : printing.Printed) (a : Printed) → asText p ≡ Content·refused a → refuses a ≡ true
     refused (Printed·text t) a e = let z : _≡_ {A = ℕ} 0 1 = cc in absurd (omega arith)
     refused (Printed·bad at) a e = let same : Bad at ≡ a = cc in rw (← same)
     refused Printed·tooMany a e = let same : TooMany ≡ a = cc in rw (← same)
     refused Printed·tooLong a e = let same : TooLong ≡ a = cc in rw (← same)
 
-    most : (p : printing.Printed) → print log ≡ p → (s : List ℕ) → asText p ≡ Result·bytes s → length s ≤ longestPrinted
+    most : (p : printing.Printed) → print log ≡ p → (s : List ℕ) → asText p ≡ Content·bytes s → length s ≤ longestPrinted
     most (Printed·text t) q s e = let same : t ≡ s = cc in rw (← same) (printed-most log t q)
     most (Printed·bad at) q s e = let z : _≡_ {A = ℕ} 0 1 = cc in absurd (omega arith)
     most Printed·tooMany q s e = let z : _≡_ {A = ℕ} 0 1 = cc in absurd (omega arith)

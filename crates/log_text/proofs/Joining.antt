@@ -15,7 +15,7 @@ use Rattle.text.proofs.Spans.{every, span-every, every-append, every-digit}
 use Rattle.text.proofs.Pieces.{pieces-piece, pieces-last}
 use Rattle.log_text.specs.Printing.{spaced, joined, lineText}
 
--- what can stand bs a word
+-- what can stand as a word
 pub record Wordy (w : List ℕ) : Type 0 where
   pub some : 1 ≤ length w
   pub line : every Line w ≡ true

@@ -10,7 +10,7 @@ use native.Mathlib.Numerals.{add-one}
 use lib.Dec.{leb, eqb}
 use lib.ListN.{length}
 use borrow.Author.Tests.{le-leb, lt-leb, eq-eqb, eqb-true}
-use Rattle.model.specs.Limits.{e-ok, e-par, e-nomem}
+use Rattle.model.specs.Limits.{e-par, e-nomem}
 use Rattle.model.specs.Rules.{okOrder}
 use Rattle.model.proofs.Tests.{by, and-l, and-r, and-f-r}
 use Rattle.numbers.specs.Wrote.{Wrote}

@@ -9,7 +9,7 @@ use lib.ListN.{length, getD}
 use Rattle.model.specs.Limits.{e-ok, e-par, e-nomem}
 use Rattle.model.specs.Rules.{okOrder}
 use Rattle.numbers.specs.Number.{numberBound}
-use Rattle.numbers.specs.Fill.{Outcome, Result, Result·bytes, Result·refused, fill}
+use Rattle.numbers.specs.Fill.{Outcome, Content, Content·bytes, Content·refused, fill}
 use Rattle.log.specs.declared.Record.{Record}
 use Rattle.log.specs.declared.Record.the-variants.{Get, Poll, Release, Cancel, Tick, PriorityGet, PriorityPoll}
 use Rattle.log.specs.declared.Kind.{Kind}
@@ -83,9 +83,9 @@ abbrev pub refusal : ℤ → Written
 refusal code = record { code = code; length = 0 }
 
 -- the log of the records, if there are records
-abbrev pub logFor : ℕ → ℕ → Option (List Record) → Result Written
-logFor n order none = Result·refused (refusal e-par)
-logFor n order (some rs) = Result·bytes (logOf n order rs)
+abbrev pub logFor : ℕ → ℕ → Option (List Record) → Content Written
+logFor n order none = Content·refused (refusal e-par)
+logFor n order (some rs) = Content·bytes (logOf n order rs)
 
 -- the log is written where the buffer holds it
 abbrev pub writeLog : ℕ → ℕ → Columns → List ℕ → Outcome Written
