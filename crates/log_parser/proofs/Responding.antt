@@ -2,13 +2,14 @@
 use Prim.Native.Nat.{ℕ, _<_, _≤_}
 use mathlib.Core.Path.{_≡_, refl}
 use mathlib.Core.Bool.{Bool, true, false}
-use mathlib.Core.List.{List, [], _∷_, _++_, append-assoc}
+use mathlib.Core.List.{List, _++_, append-assoc}
 use native.Mathlib.Omega.{arith}
 use lib.ListN.{length}
 use Rattle.numbers.specs.Wrote.{Wrote}
 use Rattle.numbers.specs.Fill.{outcome, Content·bytes, Content·refused, Responded}
 use Rattle.numbers.proofs.Fill.{response-short, Told, responded-done, responded-refused}
 use Rattle.log.specs.Log.{bytesOf}
+use Rattle.text.specs.Ascii.{ascii}
 use Rattle.text.specs.Decimal.{decimal, around}
 use Rattle.log_text.specs.declared.Why.{Why}
 use Rattle.log_text.specs.declared.Why.the-variants.{UnknownWord, MissingNumber, NumberTooLarge, TooManyNumbers, NoPoolLine, TooManyRecords}
@@ -32,8 +33,8 @@ why-short TooManyNumbers = omega arith
 why-short NoPoolLine = omega arith
 why-short TooManyRecords = omega arith
 
-pub line-parts : (k : ℕ) (why : Why) → around (108 ∷ 105 ∷ 110 ∷ 101 ∷ 32 ∷ []) k (58 ∷ 32 ∷ []) ++ whyText why ≡ refusedLine k why
-line-parts k why = rw (append-assoc (decimal k) (58 ∷ 32 ∷ []) (whyText why))
+pub line-parts : (k : ℕ) (why : Why) → around (ascii "line ") k (ascii ": ") ++ whyText why ≡ refusedLine k why
+line-parts k why = rw (append-assoc (decimal k) (ascii ": ") (whyText why))
 
 -- a line is refused, or the text is too long
 abbrev refuses : answer.Parsed → Bool

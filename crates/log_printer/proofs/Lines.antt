@@ -6,6 +6,7 @@ use native.Mathlib.Omega.{arith}
 use native.Mathlib.Numerals.{add-one}
 use lib.ListN.{length, drop, getD}
 use lib.Seq.{drop-cons}
+use Rattle.text.specs.Ascii.{ascii}
 use Rattle.text.specs.Decimal.{decimal}
 use Rattle.log_text.specs.declared.Keyword.{Keyword}
 use Rattle.log_text.specs.declared.Slot.{Slot}
@@ -17,7 +18,7 @@ use Rattle.log_text.proofs.Widths.{spaced-append}
 
 -- ---- words
 
-pub spaced-one : (w : List ℕ) → spaced (w ∷ []) ≡ 32 ∷ w
+pub spaced-one : (w : List ℕ) → spaced (w ∷ []) ≡ ascii " " ++ w
 unfolding spaced
 spaced-one w = rw (append-nil w)
 
@@ -26,7 +27,7 @@ module _ (name : List ℕ) where
   unfolding spaced
   option-none v h = rw h
 
-  pub option-some : (v : ℕ) → (v ≡ 0 → ⊥) → spaced (optionWords name v) ≡ (32 ∷ name) ++ (32 ∷ decimal (v - 1))
+  pub option-some : (v : ℕ) → (v ≡ 0 → ⊥) → spaced (optionWords name v) ≡ (ascii " " ++ name) ++ (ascii " " ++ decimal (v - 1))
   unfolding spaced
   option-some zero h = absurd (h refl)
   option-some (suc v) h = let e : suc v - 1 ≡ v = omega arith in rw (e, append-nil (decimal v))
@@ -35,7 +36,7 @@ module _ (name : List ℕ) where
   unfolding spaced
   flag-none v h = rw h
 
-  pub flag-some : (v : ℕ) → (v ≡ 0 → ⊥) → spaced (flagWords name v) ≡ 32 ∷ name
+  pub flag-some : (v : ℕ) → (v ≡ 0 → ⊥) → spaced (flagWords name v) ≡ ascii " " ++ name
   flag-some zero h = absurd (h refl)
   flag-some (suc v) h = spaced-one name
 
@@ -50,10 +51,10 @@ slots-past (s ∷ ss) (suc i) vs h = slots-past ss i vs (omega arith)
 
 module _ (k : Keyword) (vs : List ℕ) where
   abbrev pub leftFrom : ℕ → List ℕ
-  leftFrom i = spaced (slotsWords (drop i (form k)) (drop i vs)) ++ (10 ∷ [])
+  leftFrom i = spaced (slotsWords (drop i (form k)) (drop i vs)) ++ (ascii "\n")
 
   pub line-first : lineText (keywordText k ∷ slotsWords (form k) vs) ≡ keywordText k ++ leftFrom 0
-  line-first = append-assoc (keywordText k) (spaced (slotsWords (form k) vs)) (10 ∷ [])
+  line-first = append-assoc (keywordText k) (spaced (slotsWords (form k) vs)) (ascii "\n")
 
   pub line-next : (i : ℕ) → i < length (form k) → length vs ≡ 4 → leftFrom i ≡ spaced (slotWords (getD (form k) i Number) (getD vs i 0)) ++ leftFrom (i + 1)
   unfolding slotsWords
@@ -67,6 +68,6 @@ module _ (k : Keyword) (vs : List ℕ) where
         append-assoc,
       )
 
-  pub line-last : (i : ℕ) → length (form k) ≤ i → leftFrom i ≡ 10 ∷ []
+  pub line-last : (i : ℕ) → length (form k) ≤ i → leftFrom i ≡ ascii "\n"
   unfolding spaced
   line-last i h = rw (slots-past (form k) i (drop i vs) h)

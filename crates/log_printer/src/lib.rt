@@ -9,10 +9,11 @@ use log_text::Parts;
 use log_text::Slot;
 ghost use Prim.Native.Nat.{_+_, _≤_};
 ghost use mathlib.Core.Path.{_≡_};
-ghost use mathlib.Core.List.{_∷_};
+ghost use mathlib.Core.List.{_++_};
 ghost use lib.ListN.{length};
 ghost use Rattle.numbers.specs.Wrote.{Wrote};
 ghost use Rattle.numbers.specs.Fill.{outcome};
+ghost use Rattle.text.specs.Ascii.{ascii};
 ghost use Rattle.text.specs.Decimal.{decimal};
 ghost use Rattle.log_text.specs.Form.{keywordText};
 ghost use Rattle.log_text.specs.Printing.{longestLine, parts, poolParts, partsOf, optionWords, flagWords, slotWords, spaced, partsText, printRecords};
@@ -230,7 +231,7 @@ fn put_flag(buf: &mut [u8], at: usize, name: &[u8], v: u64) -> usize
 // A word.
 fn put_word(buf: &mut [u8], at: usize, word: &[u8]) -> usize
     requires { ⌜ at + 1 + length (now word) ≤ length (now buf) ⌝ }
-    ensures { λ r. ⌜ Wrote (now (buf .entry)) at (32 ∷ now (word .entry)) (now (buf .exit)) r ⌝ }
+    ensures { λ r. ⌜ Wrote (now (buf .entry)) at (ascii " " ++ now (word .entry)) (now (buf .exit)) r ⌝ }
 {
     let i = text::put_text(buf, at, b" ");
     text::put_text(buf, i, word)
@@ -239,7 +240,7 @@ fn put_word(buf: &mut [u8], at: usize, word: &[u8]) -> usize
 // A number.
 fn put_number(buf: &mut [u8], at: usize, v: u64) -> usize
     requires { ⌜ at + 1 + length (decimal v) ≤ length (now buf) ⌝ }
-    ensures { λ r. ⌜ Wrote (now (buf .entry)) at (32 ∷ decimal v) (now (buf .exit)) r ⌝ }
+    ensures { λ r. ⌜ Wrote (now (buf .entry)) at (ascii " " ++ decimal v) (now (buf .exit)) r ⌝ }
 {
     let i = text::put_text(buf, at, b" ");
     text::put_decimal(buf, i, v as usize)

@@ -1,7 +1,8 @@
 -- Texts that are read, refused and printed, by computation. Assumes nothing.
 use Prim.Native.Nat.{ℕ}
+use Prim.Native.String.{String}
 use mathlib.Core.Path.{_≡_, refl}
-use mathlib.Core.List.{List, [], _∷_, map}
+use mathlib.Core.List.{List, [], _∷_, _++_, map}
 use lib.IntN.{pos, negsuc}
 use Rattle.model.specs.Limits.{fifo-order, priority-order}
 use Rattle.numbers.specs.Number.{decode}
@@ -9,15 +10,17 @@ use Rattle.log.specs.declared.Record.the-variants.{Get, Poll, Release, Cancel, 
 use Rattle.log.specs.Fields.{readFields}
 use Rattle.log.specs.Record.{limitOf, limitField, recordOf}
 use Rattle.log.specs.Log.{startOf, Log}
+use Rattle.text.specs.Ascii.{ascii}
 use Rattle.text.specs.Decimal.{digits, valueFrom, allDigits}
 use Rattle.text.specs.Words.{span, pieces, nonempty, same, numeralOf}
+use Rattle.log_text.specs.declared.Why.{Why}
 use Rattle.log_text.specs.declared.Why.the-variants.{UnknownWord, MissingNumber, NumberTooLarge, TooManyNumbers, NoPoolLine}
 use Rattle.log_text.specs.Reading.{takeSlots, lineOf, Parsed, Parsed·log, Parsed·refused, parseLines, parse}
 use Rattle.log_text.specs.Printing.{slotsWords, spaced, recordsText, textOf, Printed·text, Printed·bad, printRecords, print}
 
 -- a comment, a blank line, several spaces, a tab, a carriage return, a leading zero, no newline at the end
 abbrev six : List ℕ
-six = 35 ∷ 32 ∷ 115 ∷ 105 ∷ 120 ∷ 32 ∷ 108 ∷ 105 ∷ 110 ∷ 101 ∷ 115 ∷ 10 ∷ 112 ∷ 111 ∷ 111 ∷ 108 ∷ 32 ∷ 54 ∷ 52 ∷ 10 ∷ 10 ∷ 103 ∷ 101 ∷ 116 ∷ 32 ∷ 49 ∷ 32 ∷ 49 ∷ 48 ∷ 10 ∷ 32 ∷ 32 ∷ 103 ∷ 101 ∷ 116 ∷ 9 ∷ 51 ∷ 32 ∷ 32 ∷ 32 ∷ 49 ∷ 50 ∷ 32 ∷ 108 ∷ 105 ∷ 109 ∷ 105 ∷ 116 ∷ 32 ∷ 53 ∷ 32 ∷ 35 ∷ 32 ∷ 119 ∷ 97 ∷ 105 ∷ 116 ∷ 115 ∷ 13 ∷ 10 ∷ 114 ∷ 101 ∷ 108 ∷ 101 ∷ 97 ∷ 115 ∷ 101 ∷ 32 ∷ 48 ∷ 48 ∷ 56 ∷ []
+six = ascii "# six lines\npool 64\n\nget 1 10\n  get\t3   12 limit 5 # waits\r\nrelease 008"
 
 read-six : parse six ≡ Parsed·log (record { long = 64; order = fifo-order; records = Get 1 10 (negsuc 0) ∷ Get 3 12 (pos 5) ∷ Release 8 ∷ [] })
 unfolding valueFrom allDigits span pieces nonempty same numeralOf takeSlots lineOf parseLines parse limitOf
@@ -25,7 +28,17 @@ read-six = refl
 
 -- every line that there is
 abbrev all : List ℕ
-all = 112 ∷ 111 ∷ 111 ∷ 108 ∷ 32 ∷ 54 ∷ 52 ∷ 32 ∷ 112 ∷ 114 ∷ 105 ∷ 111 ∷ 114 ∷ 105 ∷ 116 ∷ 121 ∷ 10 ∷ 103 ∷ 101 ∷ 116 ∷ 32 ∷ 49 ∷ 32 ∷ 49 ∷ 48 ∷ 10 ∷ 103 ∷ 101 ∷ 116 ∷ 32 ∷ 51 ∷ 32 ∷ 49 ∷ 50 ∷ 32 ∷ 108 ∷ 105 ∷ 109 ∷ 105 ∷ 116 ∷ 32 ∷ 53 ∷ 10 ∷ 103 ∷ 101 ∷ 116 ∷ 32 ∷ 51 ∷ 32 ∷ 49 ∷ 50 ∷ 32 ∷ 112 ∷ 114 ∷ 105 ∷ 111 ∷ 114 ∷ 105 ∷ 116 ∷ 121 ∷ 32 ∷ 50 ∷ 10 ∷ 103 ∷ 101 ∷ 116 ∷ 32 ∷ 51 ∷ 32 ∷ 49 ∷ 50 ∷ 32 ∷ 108 ∷ 105 ∷ 109 ∷ 105 ∷ 116 ∷ 32 ∷ 53 ∷ 32 ∷ 112 ∷ 114 ∷ 105 ∷ 111 ∷ 114 ∷ 105 ∷ 116 ∷ 121 ∷ 32 ∷ 50 ∷ 10 ∷ 112 ∷ 111 ∷ 108 ∷ 108 ∷ 32 ∷ 53 ∷ 32 ∷ 52 ∷ 10 ∷ 112 ∷ 111 ∷ 108 ∷ 108 ∷ 32 ∷ 53 ∷ 32 ∷ 52 ∷ 32 ∷ 112 ∷ 114 ∷ 105 ∷ 111 ∷ 114 ∷ 105 ∷ 116 ∷ 121 ∷ 32 ∷ 49 ∷ 10 ∷ 114 ∷ 101 ∷ 108 ∷ 101 ∷ 97 ∷ 115 ∷ 101 ∷ 32 ∷ 56 ∷ 10 ∷ 99 ∷ 97 ∷ 110 ∷ 99 ∷ 101 ∷ 108 ∷ 32 ∷ 51 ∷ 10 ∷ 116 ∷ 105 ∷ 99 ∷ 107 ∷ 10 ∷ []
+all =
+    ascii "pool 64 priority\n"
+    ++ ascii "get 1 10\n"
+    ++ ascii "get 3 12 limit 5\n"
+    ++ ascii "get 3 12 priority 2\n"
+    ++ ascii "get 3 12 limit 5 priority 2\n"
+    ++ ascii "poll 5 4\n"
+    ++ ascii "poll 5 4 priority 1\n"
+    ++ ascii "release 8\n"
+    ++ ascii "cancel 3\n"
+    ++ ascii "tick\n"
 
 abbrev all-log : Log
 all-log =
@@ -54,30 +67,47 @@ unfolding digits limitField slotsWords spaced recordsText
 print-all = refl
 
 -- lines that are refused, behind a pool line
-abbrev behind : List ℕ → Parsed
-behind s = parse (112 ∷ 111 ∷ 111 ∷ 108 ∷ 32 ∷ 57 ∷ 10 ∷ s)
+abbrev behind : String → Parsed
+behind line = parse (ascii "pool 9\n" ++ ascii line)
 
-refused :
-    map behind (
-    (103 ∷ 116 ∷ 101 ∷ 32 ∷ 49 ∷ 32 ∷ 49 ∷ 48 ∷ [])
-    ∷ (112 ∷ 111 ∷ 111 ∷ 108 ∷ 32 ∷ 54 ∷ 52 ∷ [])
-    ∷ (103 ∷ 101 ∷ 116 ∷ 32 ∷ 49 ∷ [])
-    ∷ (103 ∷ 101 ∷ 116 ∷ 32 ∷ 120 ∷ 32 ∷ 49 ∷ 48 ∷ [])
-    ∷ (103 ∷ 101 ∷ 116 ∷ 32 ∷ 49 ∷ 32 ∷ 49 ∷ 48 ∷ 32 ∷ 108 ∷ 105 ∷ 109 ∷ 105 ∷ 116 ∷ [])
-    ∷ (103 ∷ 101 ∷ 116 ∷ 32 ∷ 49 ∷ 32 ∷ 108 ∷ 105 ∷ 109 ∷ 105 ∷ 116 ∷ 32 ∷ 53 ∷ [])
-    ∷ (103 ∷ 101 ∷ 116 ∷ 32 ∷ 49 ∷ 32 ∷ 52 ∷ 50 ∷ 57 ∷ 52 ∷ 57 ∷ 54 ∷ 55 ∷ 50 ∷ 57 ∷ 54 ∷ [])
-    ∷ (103 ∷ 101 ∷ 116 ∷ 32 ∷ 49 ∷ 32 ∷ 50 ∷ 32 ∷ 108 ∷ 105 ∷ 109 ∷ 105 ∷ 116 ∷ 32 ∷ 50 ∷ 49 ∷ 52 ∷ 55 ∷ 52 ∷ 56 ∷ 51 ∷ 54 ∷ 52 ∷ 56 ∷ [])
-    ∷ (116 ∷ 105 ∷ 99 ∷ 107 ∷ 32 ∷ 49 ∷ [])
-    ∷ (103 ∷ 101 ∷ 116 ∷ 32 ∷ 49 ∷ 32 ∷ 49 ∷ 48 ∷ 32 ∷ 50 ∷ 48 ∷ [])
-    ∷ (103 ∷ 101 ∷ 116 ∷ 32 ∷ 49 ∷ 32 ∷ 49 ∷ 48 ∷ 32 ∷ 115 ∷ 111 ∷ 111 ∷ 110 ∷ [])
-    ∷ (103 ∷ 101 ∷ 116 ∷ 32 ∷ 49 ∷ 32 ∷ 49 ∷ 48 ∷ 32 ∷ 112 ∷ 114 ∷ 105 ∷ 111 ∷ 114 ∷ 105 ∷ 116 ∷ 121 ∷ 32 ∷ 50 ∷ 32 ∷ 108 ∷ 105 ∷ 109 ∷ 105 ∷ 116 ∷ 32 ∷ 53 ∷ [])
-    ∷ [])
-    ≡ Parsed·refused 2 UnknownWord ∷ Parsed·refused 2 UnknownWord ∷ Parsed·refused 2 MissingNumber ∷ Parsed·refused 2 MissingNumber ∷ Parsed·refused 2 MissingNumber ∷ Parsed·refused 2 MissingNumber ∷ Parsed·refused 2 NumberTooLarge ∷ Parsed·refused 2 NumberTooLarge ∷ Parsed·refused 2 TooManyNumbers ∷ Parsed·refused 2 TooManyNumbers ∷ Parsed·refused 2 UnknownWord ∷ Parsed·refused 2 UnknownWord ∷ []
+abbrev refused-lines : List String
+refused-lines =
+    "gte 1 10"
+    ∷ "pool 64"
+    ∷ "get 1"
+    ∷ "get x 10"
+    ∷ "get 1 10 limit"
+    ∷ "get 1 limit 5"
+    ∷ "get 1 4294967296"
+    ∷ "get 1 2 limit 2147483648"
+    ∷ "tick 1"
+    ∷ "get 1 10 20"
+    ∷ "get 1 10 soon"
+    ∷ "get 1 10 priority 2 limit 5"
+    ∷ []
+
+abbrev reasons : List Why
+reasons =
+    UnknownWord
+    ∷ UnknownWord
+    ∷ MissingNumber
+    ∷ MissingNumber
+    ∷ MissingNumber
+    ∷ MissingNumber
+    ∷ NumberTooLarge
+    ∷ NumberTooLarge
+    ∷ TooManyNumbers
+    ∷ TooManyNumbers
+    ∷ UnknownWord
+    ∷ UnknownWord
+    ∷ []
+
+refused : map behind refused-lines ≡ map (Parsed·refused 2) reasons
 unfolding valueFrom allDigits span pieces nonempty same numeralOf takeSlots lineOf parseLines parse
 refused = refl
 
 -- no pool line: an empty text, a comment alone, a record first
-no-pool : map parse ([] ∷ (35 ∷ 10 ∷ []) ∷ (116 ∷ 105 ∷ 99 ∷ 107 ∷ []) ∷ []) ≡ Parsed·refused 1 NoPoolLine ∷ Parsed·refused 2 NoPoolLine ∷ Parsed·refused 1 NoPoolLine ∷ []
+no-pool : map parse ([] ∷ ascii "#\n" ∷ ascii "tick" ∷ []) ≡ Parsed·refused 1 NoPoolLine ∷ Parsed·refused 2 NoPoolLine ∷ Parsed·refused 1 NoPoolLine ∷ []
 unfolding valueFrom allDigits span pieces nonempty same numeralOf takeSlots lineOf parseLines parse
 no-pool = refl
 
@@ -88,7 +118,7 @@ log =
 
 -- its text
 abbrev log-text : List ℕ
-log-text = 112 ∷ 111 ∷ 111 ∷ 108 ∷ 32 ∷ 54 ∷ 52 ∷ 10 ∷ 103 ∷ 101 ∷ 116 ∷ 32 ∷ 49 ∷ 32 ∷ 49 ∷ 48 ∷ 10 ∷ 103 ∷ 101 ∷ 116 ∷ 32 ∷ 50 ∷ 32 ∷ 50 ∷ 48 ∷ 10 ∷ 112 ∷ 111 ∷ 108 ∷ 108 ∷ 32 ∷ 53 ∷ 32 ∷ 49 ∷ 50 ∷ 10 ∷ 114 ∷ 101 ∷ 108 ∷ 101 ∷ 97 ∷ 115 ∷ 101 ∷ 32 ∷ 56 ∷ 10 ∷ 103 ∷ 101 ∷ 116 ∷ 32 ∷ 51 ∷ 32 ∷ 50 ∷ 52 ∷ 10 ∷ 114 ∷ 101 ∷ 108 ∷ 101 ∷ 97 ∷ 115 ∷ 101 ∷ 32 ∷ 50 ∷ 56 ∷ 10 ∷ []
+log-text = ascii "pool 64\nget 1 10\nget 2 20\npoll 5 12\nrelease 8\nget 3 24\nrelease 28\n"
 
 print-log : print log ≡ Printed·text log-text
 unfolding decode readFields limitOf limitField recordOf startOf digits slotsWords spaced printRecords print

@@ -7,6 +7,7 @@ use native.Mathlib.Omega.{arith}
 use lib.ListN.{length}
 use Rattle.text.specs.declared.words.Class.{Class}
 use Rattle.text.specs.declared.words.Class.the-variants.{Line, Plain, Word}
+use Rattle.text.specs.Ascii.{ascii}
 use Rattle.text.specs.Decimal.{decimal}
 use Rattle.text.specs.Words.{pieces, nonempty, linesOf, wordsIn, wordsOf}
 use Rattle.text.proofs.Decimal.{decimal-digits}
@@ -36,10 +37,10 @@ AllWordy (w ∷ ws) = Wordy w × AllWordy ws
 
 -- ---- the words of a line
 
-every-spaced : (c : Class) (ws : List (List ℕ)) → every c (32 ∷ []) ≡ true → ((w : List ℕ) → Wordy w → every c w ≡ true) → AllWordy ws → every c (spaced ws) ≡ true
+every-spaced : (c : Class) (ws : List (List ℕ)) → every c (ascii " ") ≡ true → ((w : List ℕ) → Wordy w → every c w ≡ true) → AllWordy ws → every c (spaced ws) ≡ true
 unfolding spaced AllWordy every
 every-spaced c [] h f a = refl
-every-spaced c (w ∷ ws) h f a = every-append c (32 ∷ []) (w ++ spaced ws) h (every-append c w (spaced ws) (f w (a .0)) (every-spaced c ws h f (a .1)))
+every-spaced c (w ∷ ws) h f a = every-append c (ascii " ") (w ++ spaced ws) h (every-append c w (spaced ws) (f w (a .0)) (every-spaced c ws h f (a .1)))
 
 pieces-word : (w : List ℕ) → Wordy w → pieces Word w ≡ w ∷ []
 pieces-word [] a = absurd (omega (arith, a .some))
@@ -67,5 +68,5 @@ words-joined w ws a bs =
 pub lines-joined : (w : List ℕ) (ws : List (List ℕ)) (s : List ℕ) → Wordy w → AllWordy ws → linesOf (lineText (w ∷ ws) ++ s) ≡ joined (w ∷ ws) ∷ linesOf s
 unfolding every
 lines-joined w ws s a bs =
-    rw (append-assoc (w ++ spaced ws) (10 ∷ []) s)
+    rw (append-assoc (w ++ spaced ws) (ascii "\n") s)
     (pieces-piece Line (w ++ spaced ws) 10 s (every-append Line w (spaced ws) (a .line) (every-spaced Line ws refl (λ v b. b .line) bs)) refl)

@@ -2,34 +2,27 @@
 use Prim.Native.Nat.{ℕ, _+_, _<_, _≤_}
 use mathlib.Core.List.{List, [], _∷_}
 use lib.ListN.{length, getD}
+use Rattle.text.specs.Ascii.{ascii}
 use Rattle.log_text.specs.declared.Keyword.{Keyword}
 use Rattle.log_text.specs.declared.Keyword.the-variants.{Pool, Get, Poll, Release, Cancel, Tick, Unknown}
 use Rattle.log_text.specs.declared.Slot.{Slot}
 use Rattle.log_text.specs.declared.Slot.the-variants.{Number, Limit, Priority, Order}
 
--- the words, in ASCII
+-- the words
 abbrev pub keywordText : Keyword → List ℕ
--- pool
-keywordText Pool = 112 ∷ 111 ∷ 111 ∷ 108 ∷ []
--- get
-keywordText Get = 103 ∷ 101 ∷ 116 ∷ []
--- poll
-keywordText Poll = 112 ∷ 111 ∷ 108 ∷ 108 ∷ []
--- release
-keywordText Release = 114 ∷ 101 ∷ 108 ∷ 101 ∷ 97 ∷ 115 ∷ 101 ∷ []
--- cancel
-keywordText Cancel = 99 ∷ 97 ∷ 110 ∷ 99 ∷ 101 ∷ 108 ∷ []
--- tick
-keywordText Tick = 116 ∷ 105 ∷ 99 ∷ 107 ∷ []
+keywordText Pool = ascii "pool"
+keywordText Get = ascii "get"
+keywordText Poll = ascii "poll"
+keywordText Release = ascii "release"
+keywordText Cancel = ascii "cancel"
+keywordText Tick = ascii "tick"
 keywordText Unknown = []
 
--- limit
 abbrev pub limitText : List ℕ
-limitText = 108 ∷ 105 ∷ 109 ∷ 105 ∷ 116 ∷ []
+limitText = ascii "limit"
 
--- priority
 abbrev pub priorityText : List ℕ
-priorityText = 112 ∷ 114 ∷ 105 ∷ 111 ∷ 114 ∷ 105 ∷ 116 ∷ 121 ∷ []
+priorityText = ascii "priority"
 
 -- what stands behind the first word of a line, in this order
 abbrev pub form : Keyword → List Slot

@@ -14,6 +14,7 @@ use Rattle.log.specs.declared.Start.the-variants as start
 use Rattle.log.specs.declared.Read.the-variants as read
 use Rattle.log.specs.Record.{limitField, recordOf}
 use Rattle.log.specs.Log.{mostRecords, AllExpressible, startOf, Log}
+use Rattle.text.specs.Ascii.{ascii}
 use Rattle.text.specs.Decimal.{decimal}
 use Rattle.log_text.specs.declared.Keyword.{Keyword}
 use Rattle.log_text.specs.declared.Keyword.the-variants.{Pool, Get, Poll, Release, Cancel, Tick}
@@ -68,7 +69,7 @@ lineWords p = keywordText (p .keyword) ∷ slotsWords (form (p .keyword)) (p .ar
 -- words with a space in front of each
 unfoldable pub spaced : List (List ℕ) → List ℕ
 spaced [] = []
-spaced (w ∷ ws) = 32 ∷ (w ++ spaced ws)
+spaced (w ∷ ws) = ascii " " ++ (w ++ spaced ws)
 
 -- words with one space between them
 abbrev pub joined : List (List ℕ) → List ℕ
@@ -77,7 +78,7 @@ joined (w ∷ ws) = w ++ spaced ws
 
 -- the line of words, with its newline
 abbrev pub lineText : List (List ℕ) → List ℕ
-lineText ws = joined ws ++ (10 ∷ [])
+lineText ws = joined ws ++ ascii "\n"
 
 abbrev pub partsText : Parts → List ℕ
 partsText p = lineText (lineWords p)

@@ -1,5 +1,6 @@
 -- Lines, words and numbers of a text, as lists of ASCII codes.
 use Prim.Native.Nat.{ℕ}
+use Prim.Native.Char.{code}
 use mathlib.Core.List.{List, [], _∷_}
 use mathlib.Core.Bool.{Bool, true, false, not, cond, _&&_, _||_}
 use lib.Dec.{leb, eqb}
@@ -13,14 +14,14 @@ use Rattle.text.specs.Decimal.{valueOf, allDigits}
 
 -- a space, a tab or a carriage return
 abbrev pub isBlank : ℕ → Bool
-isBlank b = eqb b 32 || (eqb b 9 || eqb b 13)
+isBlank b = eqb b (code " ") || (eqb b (code "\t") || eqb b (code "\r"))
 
 abbrev pub belongs : Class → ℕ → Bool
-belongs Line b = not (eqb b 10)
-belongs Plain b = not (eqb b 35)
+belongs Line b = not (eqb b (code "\n"))
+belongs Plain b = not (eqb b (code "#"))
 belongs Blank b = isBlank b
 belongs Word b = not (isBlank b)
-belongs Digit b = leb 48 b && leb b 57
+belongs Digit b = leb (code "0") b && leb b (code "9")
 
 -- the longest start of a text whose bytes are of the class
 unfoldable pub span : Class → List ℕ → List ℕ

@@ -14,19 +14,20 @@ use Rattle.numbers.specs.Number.{decode}
 use Rattle.log.specs.Fields.{readFields}
 use Rattle.log.specs.Record.{limitOf, recordOf}
 use Rattle.log.specs.Log.{startOf}
+use Rattle.text.specs.Ascii.{ascii}
 use Rattle.text.specs.Decimal.{digits, decimal}
 use Rattle.transcript.specs.Lines.{signed}
 use Rattle.transcript.specs.Transcript.{wokenText, answerText, recordsText, poolText, transcriptOf}
 
-zero : decimal 0 ≡ 48 ∷ []
+zero : decimal 0 ≡ ascii "0"
 unfolding digits
 zero = refl
 
-hundred : decimal 100 ≡ 49 ∷ 48 ∷ 48 ∷ []
+hundred : decimal 100 ≡ ascii "100"
 unfolding digits
 hundred = refl
 
-least : signed (negsuc 2147483647) ≡ 45 ∷ 50 ∷ 49 ∷ 52 ∷ 55 ∷ 52 ∷ 56 ∷ 51 ∷ 54 ∷ 52 ∷ 56 ∷ []
+least : signed (negsuc 2147483647) ≡ ascii "-2147483648"
 unfolding digits
 least = refl
 
@@ -36,15 +37,15 @@ log = 0x40 ∷ 0x01 ∷ 0x01 ∷ 0x0A ∷ 0x00 ∷ 0x01 ∷ 0x02 ∷ 0x14 ∷ 0x
 
 abbrev log-text : List ℕ
 log-text =
-    (112 ∷ 111 ∷ 111 ∷ 108 ∷ 32 ∷ 54 ∷ 52 ∷ 10 ∷ [])
-    ++ (48 ∷ 32 ∷ 56 ∷ 10 ∷ [])
-    ++ (48 ∷ 32 ∷ 50 ∷ 56 ∷ 10 ∷ [])
-    ++ (45 ∷ 53 ∷ 48 ∷ 32 ∷ 48 ∷ 10 ∷ [])
-    ++ (48 ∷ 32 ∷ 48 ∷ 10 ∷ [])
-    ++ (49 ∷ 32 ∷ 48 ∷ 10 ∷ [])
-    ++ (48 ∷ 32 ∷ 48 ∷ 10 ∷ [])
-    ++ (119 ∷ 32 ∷ 51 ∷ 32 ∷ 48 ∷ 32 ∷ 56 ∷ 10 ∷ [])
-    ++ (101 ∷ 110 ∷ 100 ∷ 32 ∷ 54 ∷ 32 ∷ 114 ∷ 101 ∷ 99 ∷ 111 ∷ 114 ∷ 100 ∷ 115 ∷ 10 ∷ [])
+    ascii "pool 64\n"
+    ++ ascii "0 8\n"
+    ++ ascii "0 28\n"
+    ++ ascii "-50 0\n"
+    ++ ascii "0 0\n"
+    ++ ascii "1 0\n"
+    ++ ascii "0 0\n"
+    ++ ascii "w 3 0 8\n"
+    ++ ascii "end 6 records\n"
 
 -- a tick that wakes nobody, one that ends a wait of limit 1 and lets another be served, then a cancel of a task that does not wait
 abbrev ticks : List ℕ
@@ -52,17 +53,17 @@ ticks = 0x40 ∷ 0x01 ∷ 0x01 ∷ 0x0A ∷ 0x00 ∷ 0x01 ∷ 0x02 ∷ 0x14 ∷ 
 
 abbrev ticks-text : List ℕ
 ticks-text =
-    (112 ∷ 111 ∷ 111 ∷ 108 ∷ 32 ∷ 54 ∷ 52 ∷ 10 ∷ [])
-    ++ (48 ∷ 32 ∷ 56 ∷ 10 ∷ [])
-    ++ (48 ∷ 32 ∷ 50 ∷ 56 ∷ 10 ∷ [])
-    ++ (49 ∷ 32 ∷ 48 ∷ 10 ∷ [])
-    ++ (49 ∷ 32 ∷ 48 ∷ 10 ∷ [])
-    ++ (48 ∷ 32 ∷ 48 ∷ 10 ∷ [])
-    ++ (48 ∷ 32 ∷ 48 ∷ 10 ∷ [])
-    ++ (119 ∷ 32 ∷ 51 ∷ 32 ∷ 45 ∷ 53 ∷ 48 ∷ 32 ∷ 48 ∷ 10 ∷ [])
-    ++ (119 ∷ 32 ∷ 52 ∷ 32 ∷ 48 ∷ 32 ∷ 53 ∷ 54 ∷ 10 ∷ [])
-    ++ (45 ∷ 52 ∷ 49 ∷ 32 ∷ 48 ∷ 10 ∷ [])
-    ++ (101 ∷ 110 ∷ 100 ∷ 32 ∷ 55 ∷ 32 ∷ 114 ∷ 101 ∷ 99 ∷ 111 ∷ 114 ∷ 100 ∷ 115 ∷ 10 ∷ [])
+    ascii "pool 64\n"
+    ++ ascii "0 8\n"
+    ++ ascii "0 28\n"
+    ++ ascii "1 0\n"
+    ++ ascii "1 0\n"
+    ++ ascii "0 0\n"
+    ++ ascii "0 0\n"
+    ++ ascii "w 3 -50 0\n"
+    ++ ascii "w 4 0 56\n"
+    ++ ascii "-41 0\n"
+    ++ ascii "end 7 records\n"
 
 -- a kind that is none, after a tick
 abbrev bad : List ℕ
@@ -70,9 +71,9 @@ bad = 0x0C ∷ 0x05 ∷ 0x09 ∷ 0x05 ∷ []
 
 abbrev bad-text : List ℕ
 bad-text =
-    (112 ∷ 111 ∷ 111 ∷ 108 ∷ 32 ∷ 49 ∷ 50 ∷ 10 ∷ [])
-    ++ (48 ∷ 32 ∷ 48 ∷ 10 ∷ [])
-    ++ (98 ∷ 97 ∷ 100 ∷ 32 ∷ 108 ∷ 111 ∷ 103 ∷ 32 ∷ 97 ∷ 116 ∷ 32 ∷ 50 ∷ 10 ∷ [])
+    ascii "pool 12\n"
+    ++ ascii "0 0\n"
+    ++ ascii "bad log at 2\n"
 
 -- by priority: task 3 waits with priority 9, a poll of priority 9 is refused, a get without a priority has 16 and waits, and a poll of priority 1 is granted
 abbrev priorities : List ℕ
@@ -82,14 +83,14 @@ priorities =
 
 abbrev priorities-text : List ℕ
 priorities-text =
-    (112 ∷ 111 ∷ 111 ∷ 108 ∷ 32 ∷ 54 ∷ 52 ∷ 10 ∷ [])
-    ++ (48 ∷ 32 ∷ 56 ∷ 10 ∷ [])
-    ++ (48 ∷ 32 ∷ 50 ∷ 56 ∷ 10 ∷ [])
-    ++ (49 ∷ 32 ∷ 48 ∷ 10 ∷ [])
-    ++ (45 ∷ 53 ∷ 48 ∷ 32 ∷ 48 ∷ 10 ∷ [])
-    ++ (49 ∷ 32 ∷ 48 ∷ 10 ∷ [])
-    ++ (48 ∷ 32 ∷ 53 ∷ 54 ∷ 10 ∷ [])
-    ++ (101 ∷ 110 ∷ 100 ∷ 32 ∷ 54 ∷ 32 ∷ 114 ∷ 101 ∷ 99 ∷ 111 ∷ 114 ∷ 100 ∷ 115 ∷ 10 ∷ [])
+    ascii "pool 64\n"
+    ++ ascii "0 8\n"
+    ++ ascii "0 28\n"
+    ++ ascii "1 0\n"
+    ++ ascii "-50 0\n"
+    ++ ascii "1 0\n"
+    ++ ascii "0 56\n"
+    ++ ascii "end 6 records\n"
 
 -- the mark of the order after a tick, and twice: bad at its place
 abbrev misplaced : List ℕ
@@ -100,8 +101,8 @@ twice = 0x0C ∷ 0x08 ∷ 0x08 ∷ 0x05 ∷ []
 
 abbrev twice-text : List ℕ
 twice-text =
-    (112 ∷ 111 ∷ 111 ∷ 108 ∷ 32 ∷ 49 ∷ 50 ∷ 10 ∷ [])
-    ++ (98 ∷ 97 ∷ 100 ∷ 32 ∷ 108 ∷ 111 ∷ 103 ∷ 32 ∷ 97 ∷ 116 ∷ 32 ∷ 50 ∷ 10 ∷ [])
+    ascii "pool 12\n"
+    ++ ascii "bad log at 2\n"
 
 -- a length and no record
 abbrev no-record : List ℕ
@@ -109,8 +110,8 @@ no-record = 0x0C ∷ []
 
 abbrev no-record-text : List ℕ
 no-record-text =
-    (112 ∷ 111 ∷ 111 ∷ 108 ∷ 32 ∷ 49 ∷ 50 ∷ 10 ∷ [])
-    ++ (101 ∷ 110 ∷ 100 ∷ 32 ∷ 48 ∷ 32 ∷ 114 ∷ 101 ∷ 99 ∷ 111 ∷ 114 ∷ 100 ∷ 115 ∷ 10 ∷ [])
+    ascii "pool 12\n"
+    ++ ascii "end 0 records\n"
 
 computed : (transcriptOf defaults log ≡ log-text) × (transcriptOf defaults ticks ≡ ticks-text) × (transcriptOf defaults bad ≡ bad-text) × (transcriptOf defaults no-record ≡ no-record-text)
     × (transcriptOf defaults priorities ≡ priorities-text) × (transcriptOf defaults misplaced ≡ bad-text) × (transcriptOf defaults twice ≡ twice-text)
@@ -118,20 +119,20 @@ unfolding total tiled fits firstFit carve granted startsAt join freed sumFree gr
 computed = (refl, refl, refl, refl, refl, refl, refl)
 
 -- an empty log
-empty : transcriptOf defaults [] ≡ 98 ∷ 97 ∷ 100 ∷ 32 ∷ 108 ∷ 111 ∷ 103 ∷ 32 ∷ 97 ∷ 116 ∷ 32 ∷ 48 ∷ 10 ∷ []
+empty : transcriptOf defaults [] ≡ ascii "bad log at 0\n"
 unfolding decode digits startOf poolText transcriptOf
 empty = refl
 
 -- a length that is not in its shortest form
-not-shortest : transcriptOf defaults (0x80 ∷ 0x00 ∷ 0x05 ∷ []) ≡ 98 ∷ 97 ∷ 100 ∷ 32 ∷ 108 ∷ 111 ∷ 103 ∷ 32 ∷ 97 ∷ 116 ∷ 32 ∷ 48 ∷ 10 ∷ []
+not-shortest : transcriptOf defaults (0x80 ∷ 0x00 ∷ 0x05 ∷ []) ≡ ascii "bad log at 0\n"
 unfolding decode digits startOf poolText transcriptOf
 not-shortest = refl
 
 -- lengths that are not allowed: 14 and 2^32 - 1
-refused : transcriptOf defaults (0x0E ∷ 0x05 ∷ []) ≡ 112 ∷ 111 ∷ 111 ∷ 108 ∷ 32 ∷ 114 ∷ 101 ∷ 102 ∷ 117 ∷ 115 ∷ 101 ∷ 100 ∷ 32 ∷ 45 ∷ 49 ∷ 55 ∷ 10 ∷ []
+refused : transcriptOf defaults (0x0E ∷ 0x05 ∷ []) ≡ ascii "pool refused -17\n"
 unfolding rules decode startOf poolText transcriptOf
 refused = refl
 
-refused-greatest : transcriptOf defaults (0xFF ∷ 0xFF ∷ 0xFF ∷ 0xFF ∷ 0x0F ∷ 0x05 ∷ []) ≡ 112 ∷ 111 ∷ 111 ∷ 108 ∷ 32 ∷ 114 ∷ 101 ∷ 102 ∷ 117 ∷ 115 ∷ 101 ∷ 100 ∷ 32 ∷ 45 ∷ 49 ∷ 55 ∷ 10 ∷ []
+refused-greatest : transcriptOf defaults (0xFF ∷ 0xFF ∷ 0xFF ∷ 0xFF ∷ 0x0F ∷ 0x05 ∷ []) ≡ ascii "pool refused -17\n"
 unfolding rules decode startOf poolText transcriptOf
 refused-greatest = refl

@@ -2,7 +2,7 @@
 use Prim.Native.Nat.{ℕ, suc, _<_, _≤_}
 use mathlib.Core.Path.{_≡_}
 use mathlib.Core.Bool.{true, false}
-use mathlib.Core.List.{_∷_}
+use mathlib.Core.List.{_++_}
 use native.Mathlib.Nat.{zero-add}
 use native.Mathlib.Omega.{arith}
 use mir.Syntax.{w32, w64}
@@ -13,6 +13,7 @@ use lib.IntN.{ℤ, pos, negsuc, natAbs, _-ℤ_}
 use lib.ListN.{length}
 use lib.Signed.{ltZ, nonNeg}
 use borrow.Author.Tests.{ltb-true}
+use Rattle.text.specs.Ascii.{ascii}
 use Rattle.text.specs.Decimal.{decimal}
 use Rattle.transcript.specs.Lines.{signed}
 use Rattle.text.proofs.Decimal.{length-half}
@@ -35,7 +36,7 @@ pub record Negative (z : ℤ) : Type 0 where
   pub wide-fits : SFits w64 (read z)
   pub minus-fits : SFits w64 (pos 0 -ℤ wide z)
   pub cast : T (nonNeg (negated z)) × Fits w64 (natAbs (negated z))
-  pub text : signed z ≡ 45 ∷ decimal (natAbs (negated z))
+  pub text : signed z ≡ ascii "-" ++ decimal (natAbs (negated z))
 
 pub negative : (z : ℤ) → SFits w32 z → ltZ (read z) (pos 0) ≡ true → Negative z
 negative (pos n) f t = absurd (omega (arith, ltb-true n 0 (rw (toZ-ofZ w32 (pos n) f) at t)))

@@ -25,7 +25,8 @@ use Rattle.log.specs.Record.{recordOf, encodeRecord}
 use Rattle.log.specs.Log.{startBytes, startOf, encodeRecords, logOf, AllExpressible}
 use Rattle.log.proofs.Theorems.{record-encode, record-length}
 use Rattle.log.proofs.Starts.{start-encode}
-use Rattle.text.specs.Decimal.{digits, decimal, allDigits}
+use Rattle.text.specs.Ascii.{ascii}
+use Rattle.text.specs.Decimal.{digits, decimal, around, allDigits}
 use Rattle.transcript.specs.Lines.{signed, poolLine, answerLine, wokenLine, endLine, badLine, refusedLine, tooLongLine, longestAnswer, longestLine, isLine}
 use Rattle.transcript.specs.Transcript.{longestLog, callOf, answerText, recordsText, freshPool, withOrder, poolText, transcriptOf, callsOf, turnsText}
 use Rattle.text.proofs.Decimal.{decimal-digits, length-word, length-half}
@@ -35,7 +36,7 @@ use Rattle.transcript.proofs.Lines.{line-decimal, line-signed}
 
 -- ---- integers
 
-minus-decimal : {A : Type 0} (m n : ℕ) → 45 ∷ decimal m ≡ decimal n → A
+minus-decimal : {A : Type 0} (m n : ℕ) → ascii "-" ++ decimal m ≡ decimal n → A
 unfolding allDigits
 minus-decimal m n e = let z : false ≡ true = ap allDigits e ∙ decimal-digits n in let o : _≡_ {A = ℕ} 0 1 = cc in absurd (omega arith)
 
@@ -50,16 +51,16 @@ signed-injective (negsuc m) (negsuc n) e =
 
 pub line-pool : (n : ℕ) → isLine (poolLine n) ≡ true
 unfolding isLine
-line-pool n = line-decimal n (10 ∷ [])
+line-pool n = line-decimal n (ascii "\n")
 
 pub line-answer : (code : ℤ) (offset : ℕ) → isLine (answerLine code offset) ≡ true
 unfolding isLine
-line-answer code offset = line-signed code (32 ∷ (decimal offset ++ (10 ∷ []))) ∙ line-decimal offset (10 ∷ [])
+line-answer code offset = line-signed code (around (ascii " ") offset (ascii "\n")) ∙ line-decimal offset (ascii "\n")
 
 pub line-woken : (task : ℕ) (code : ℤ) (offset : ℕ) → isLine (wokenLine task code offset) ≡ true
 unfolding isLine
 line-woken task code offset =
-    rw (append-assoc (decimal task) (32 ∷ []) (answerLine code offset)) (line-decimal task (32 ∷ answerLine code offset) ∙ line-answer code offset)
+    rw (append-assoc (decimal task) (ascii " ") (answerLine code offset)) (line-decimal task (ascii " " ++ answerLine code offset) ∙ line-answer code offset)
 
 pub line-end : (count : ℕ) → isLine (endLine count) ≡ true
 unfolding isLine
@@ -67,7 +68,7 @@ line-end count = line-decimal count _
 
 pub line-bad : (place : ℕ) → isLine (badLine place) ≡ true
 unfolding isLine
-line-bad place = line-decimal place (10 ∷ [])
+line-bad place = line-decimal place (ascii "\n")
 
 pub line-refused : isLine refusedLine ≡ true
 unfolding isLine
@@ -79,7 +80,7 @@ line-too-long = refl
 
 -- ---- lines: the code of a pool that is refused
 
-pub refused-code : refusedLine ≡ 112 ∷ 111 ∷ 111 ∷ 108 ∷ 32 ∷ 114 ∷ 101 ∷ 102 ∷ 117 ∷ 115 ∷ 101 ∷ 100 ∷ 32 ∷ (signed e-par ++ (10 ∷ []))
+pub refused-code : refusedLine ≡ ascii "pool refused " ++ (signed e-par ++ ascii "\n")
 unfolding digits
 refused-code = refl
 

@@ -1,11 +1,12 @@
 -- `put_line` meets its contract: the loop keeps `Writing`, the slots and the newline that are left to write. Assumes nothing.
 use Prim.Native.Nat.{_+_, _-_, _<_}
 use mathlib.Core.Path.{_≡_, refl, _∙_}
-use mathlib.Core.List.{[], _∷_, _++_}
+use mathlib.Core.List.{[], _++_}
 use native.Mathlib.Omega.{arith}
 use lib.ListN.{length, getD, length-append}
 use borrow.Author.Needs.{needs}
 use Rattle.numbers.proofs.Wrote.{Writing, wrote-length, wrote-append, writing-start, writing-fits, writing-next, writing-end}
+use Rattle.text.specs.Ascii.{ascii}
 use Rattle.log_text.specs.Form.{form}
 use Rattle.log_text.specs.Printing.{slotWords, spaced}
 use Rattle.log_text.proofs.Slots.{form-few}
@@ -65,13 +66,13 @@ loop-again : tie.Need-loop-again Inv-loop μ-loop
 loop-again c = writing-next (c .before .before .before .before .before .before .loop .inv) _ (next (c .before .before .before)) (c .before .before .put-slot .ensures)
 
 -- the newline is left behind the loop
-last : (c : tie.After-loop Inv-loop μ-loop) → let parts = c .before .before .before .before .before .before .before .before .before .args .parts in leftFrom (parts .keyword) (parts .arguments) (c .before .loop .i) ≡ 10 ∷ []
+last : (c : tie.After-loop Inv-loop μ-loop) → let parts = c .before .before .before .before .before .before .before .before .before .args .parts in leftFrom (parts .keyword) (parts .arguments) (c .before .loop .i) ≡ ascii "\n"
 last c =
     let parts = c .before .before .before .before .before .before .before .before .before .args .parts in
     line-last (parts .keyword) (parts .arguments) (c .before .loop .i) (omega (arith, c .loop-test .left, c .before .before .before .before .before .before .slot-count .ensures))
 
 put-text-requires : tie.Need-put-text-requires Inv-loop μ-loop
-put-text-requires c κs = writing-fits (c .before .before .before .loop .inv) (10 ∷ []) [] (last (c .before .before))
+put-text-requires c κs = writing-fits (c .before .before .before .loop .inv) (ascii "\n") [] (last (c .before .before))
 
 same-length : tie.Need-same-length Inv-loop μ-loop
 same-length c =
