@@ -1,12 +1,13 @@
 // The bench examples of document 01, size kinds and priorities, run by the proved calls. Each call is written with what it answers; the file `stdout` has what document 01 expects.
 mod blocks;
-mod calls;
 mod examples;
 mod kinds;
 mod priorities;
 mod refusals;
+mod script;
 mod serving;
 mod show;
+mod start;
 
 fn main() {
     examples::run();

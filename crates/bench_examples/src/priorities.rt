@@ -1,8 +1,8 @@
 // Pools by priority.
-use crate::calls;
-use crate::examples;
 use crate::refusals;
+use crate::script;
 use crate::show;
+use crate::start;
 use model::Attributes;
 use model::Entry;
 use model::FIFO_ORDER;
@@ -20,7 +20,7 @@ fn attributes(order: u16) -> Attributes {
 
 // The blocks of example c, and the queue with another order.
 fn after_c(buffer: &mut [u8; 64], order: u16) -> Queue {
-    let c = examples::after_c(buffer);
+    let c = start::c(buffer);
     let entries = c.entries;
     Queue {
         attributes: attributes(order),
@@ -33,50 +33,62 @@ fn after_c(buffer: &mut [u8; 64], order: u16) -> Queue {
 fn by_priority(buffer: &mut [u8; 64]) {
     show::title(b"by priority, after c");
     let c = after_c(buffer, PRIORITY_ORDER);
-    let waits = calls::get_by(buffer, c, 3, 12, 9);
-    let equal = calls::poll_by(buffer, waits, 5, 4, 9);
-    let better = calls::poll_by(buffer, equal, 5, 4, 1);
-    let back = calls::release(buffer, better, 56);
-    show::state(buffer, back);
-    let second = calls::get_by(buffer, back, 4, 4, 9);
-    let best = calls::get_by(buffer, second, 5, 20, 1);
-    let last = calls::get(buffer, best, 6, 4, -1);
-    show::state(buffer, last);
-    let released = calls::release(buffer, last, 8);
-    let cancelled = calls::cancel(buffer, released, 5);
-    show::state(buffer, cancelled);
+    script::run(
+        buffer,
+        c,
+        b"get 3 12 priority 9\n\
+        poll 5 4 priority 9\n\
+        poll 5 4 priority 1\n\
+        release 56\n\
+        show\n\
+        get 4 4 priority 9\n\
+        get 5 20 priority 1\n\
+        get 6 4\n\
+        show\n\
+        release 8\n\
+        cancel 5\n\
+        show\n",
+    );
 }
 
 // In a FIFO pool the priority is tested and kept, no more.
 fn fifo(buffer: &mut [u8; 64]) {
     show::title(b"who asked first, after c");
     let c = after_c(buffer, FIFO_ORDER);
-    let waits = calls::get_by(buffer, c, 3, 12, 9);
-    let refused = calls::poll_by(buffer, waits, 5, 4, 1);
-    let second = calls::get_by(buffer, refused, 4, 4, 1);
-    show::state(buffer, second);
-    let released = calls::release(buffer, second, 8);
-    show::state(buffer, released);
+    script::run(
+        buffer,
+        c,
+        b"get 3 12 priority 9\n\
+        poll 5 4 priority 1\n\
+        get 4 4 priority 1\n\
+        show\n\
+        release 8\n\
+        show\n",
+    );
 }
 
 // The least and the greatest priority, and those beyond; the test of the task comes first, that for one that waits last.
 fn numbers(buffer: &mut [u8; 64], order: u16) {
     let c = after_c(buffer, order);
-    let none = calls::get_by(buffer, c, 3, 12, 0);
-    let above = calls::poll_by(buffer, none, 3, 4, 17);
-    let no_task = calls::get_by(buffer, above, 33, 12, 0);
-    let best = calls::get_by(buffer, no_task, 3, 12, 1);
-    let lowest = calls::get_by(buffer, best, 4, 12, 16);
-    let waits = calls::get_by(buffer, lowest, 4, 12, 17);
-    show::state(buffer, waits);
+    script::run(
+        buffer,
+        c,
+        b"get 3 12 priority 0\n\
+        poll 3 4 priority 17\n\
+        get 33 12 priority 0\n\
+        get 3 12 priority 1\n\
+        get 4 12 priority 16\n\
+        get 4 12 priority 17\n\
+        show\n",
+    );
 }
 
 fn orders() {
     show::title(b"orders of create");
-    calls::create_with(&mut [170; 64], WITHOUT_KINDS, 0, FIFO_ORDER);
-    calls::create_with(&mut [170; 64], WITHOUT_KINDS, 0, PRIORITY_ORDER);
-    calls::create_with(&mut [170; 64], WITHOUT_KINDS, 0, 2);
-    calls::create_with(&mut [170; 64], WITHOUT_KINDS, 0, 65535);
+    start::create_with(&mut [170; 64], WITHOUT_KINDS, 0, FIFO_ORDER);
+    start::create_with(&mut [170; 64], WITHOUT_KINDS, 0, PRIORITY_ORDER);
+    start::create_with(&mut [170; 64], WITHOUT_KINDS, 0, 2);
+    start::create_with(&mut [170; 64], WITHOUT_KINDS, 0, 65535);
 }
 
 fn waiter(task: u16, priority: u16) -> Entry {
@@ -90,7 +102,7 @@ fn waiter(task: u16, priority: u16) -> Entry {
 
 // Two entries that no call would leave there.
 fn spoiled(buffer: &mut [u8; 64], order: u16, first: Entry, second: Entry) {
-    let c = examples::after_c(buffer);
+    let c = start::c(buffer);
     let mut entries = c.entries;
     entries[0] = first;
     entries[1] = second;

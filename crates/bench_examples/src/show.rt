@@ -6,6 +6,7 @@ use model::FOREVER;
 use model::LOWEST_PRIORITY;
 use model::Queue;
 use model::TASKS;
+use model::Totals;
 use model::Woken;
 
 pub fn text(s: &[u8]) {
@@ -43,8 +44,9 @@ fn woken(w: Woken) {
     }
 }
 
-// The line `code offset`, and a line `w task code offset` for each woken task.
-pub fn answer(a: Answer) {
+// The rest of a call's line, `: code offset`, and a line `w task code offset` for each woken task. Answers the queue.
+pub fn told(a: Answer) -> Queue {
+    text(b":");
     signed(a.code);
     number(a.offset.0);
     text(b"\n");
@@ -52,6 +54,17 @@ pub fn answer(a: Answer) {
     for i in 0..TASKS {
         woken(list[i]);
     }
+    a.queue
+}
+
+// The rest of the line of an inquire.
+pub fn totals(t: Totals) {
+    text(b":");
+    signed(t.code);
+    number(t.sum);
+    number(t.greatest);
+    number(t.head as usize);
+    text(b"\n");
 }
 
 // The task, the size as asked and the ticks left, and the priority where it is not the lowest.
