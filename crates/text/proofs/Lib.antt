@@ -5,3 +5,4 @@ pub mod Sameness
 pub mod Numerals
 pub mod Writing
 pub mod Theorems
+pub mod Examples

@@ -15,17 +15,9 @@ use Rattle.log.specs.Fields.{readFields}
 use Rattle.log.specs.Record.{limitOf, recordOf}
 use Rattle.log.specs.Log.{startOf}
 use Rattle.text.specs.Ascii.{ascii}
-use Rattle.text.specs.Decimal.{digits, decimal}
+use Rattle.text.specs.Decimal.{digits}
 use Rattle.transcript.specs.Lines.{signed}
 use Rattle.transcript.specs.Transcript.{wokenText, answerText, recordsText, poolText, transcriptOf}
-
-zero : decimal 0 ≡ ascii "0"
-unfolding digits
-zero = refl
-
-hundred : decimal 100 ≡ ascii "100"
-unfolding digits
-hundred = refl
 
 least : signed (negsuc 2147483647) ≡ ascii "-2147483648"
 unfolding digits
