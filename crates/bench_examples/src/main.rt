@@ -5,14 +5,14 @@ mod kinds;
 mod priorities;
 mod refusals;
 mod script;
-mod serving;
 mod show;
 mod start;
+mod waiters;
 
 fn main() {
     examples::run();
     refusals::run();
-    serving::run();
+    waiters::run();
     blocks::run();
     kinds::run();
     priorities::run();

@@ -51,7 +51,7 @@ slots-past (s ∷ ss) (suc i) vs h = slots-past ss i vs (omega arith)
 
 module _ (k : Keyword) (vs : List ℕ) where
   abbrev pub leftFrom : ℕ → List ℕ
-  leftFrom i = spaced (slotsWords (drop i (form k)) (drop i vs)) ++ (ascii "\n")
+  leftFrom i = spaced (slotsWords (drop i (form k)) (drop i vs)) ++ ascii "\n"
 
   pub line-first : lineText (keywordText k ∷ slotsWords (form k) vs) ≡ keywordText k ++ leftFrom 0
   line-first = append-assoc (keywordText k) (spaced (slotsWords (form k) vs)) (ascii "\n")
