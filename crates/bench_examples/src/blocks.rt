@@ -2,6 +2,7 @@
 use crate::script;
 use crate::show;
 use crate::start;
+use crate::start::Example;
 use layout::header;
 use model::HeaderPlace;
 
@@ -15,7 +16,8 @@ fn splits() {
 
 // The second release joins behind and before. Runs of 20 and 16 bytes are free, and both fit.
 fn runs() {
-    start::after_c(
+    start::after(
+        Example::C,
         &mut [170; 64],
         b"# joined on both sides, after c\n\
         release 8\n\
@@ -23,7 +25,8 @@ fn runs() {
         show\n\
         inquire\n",
     );
-    start::after_c(
+    start::after(
+        Example::C,
         &mut [170; 64],
         b"# the lowest run that fits, after c\n\
         release 8\n\

@@ -2,6 +2,7 @@
 use crate::script;
 use crate::show;
 use crate::start;
+use crate::start::Example;
 use model::DEFAULTS;
 use model::Entry;
 use model::Queue;
@@ -49,7 +50,8 @@ fn requests(buffer: &mut [u8; 64]) {
 
 // Offsets below every block, past the pool and of a free run.
 fn others() {
-    start::after_e(
+    start::after(
+        Example::E,
         &mut [170; 64],
         b"# refused releases and cancels, after e\n\
         release 7\n\

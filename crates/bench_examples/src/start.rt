@@ -6,6 +6,14 @@ use model::DEFAULTS;
 use model::LOWEST_PRIORITY;
 use model::Queue;
 
+// Examples whose state others begin with.
+pub enum Example {
+    B,
+    C,
+    E,
+}
+
+// Create by the defaults, written with what it answers.
 pub fn create(buffer: &mut [u8]) -> Queue {
     show::text(b"create");
     show::number(buffer.len());
@@ -57,20 +65,18 @@ pub fn e(buffer: &mut [u8; 64]) -> Queue {
     e.queue
 }
 
-// Scripts on these.
-pub fn after_b(buffer: &mut [u8; 64], lines: &[u8]) {
-    let queue = b(buffer);
+// A script on one of these.
+pub fn after(example: Example, buffer: &mut [u8; 64], lines: &[u8]) {
+    let queue = left(example, buffer);
     script::run(buffer, queue, lines);
 }
 
-pub fn after_c(buffer: &mut [u8; 64], lines: &[u8]) {
-    let queue = c(buffer);
-    script::run(buffer, queue, lines);
-}
-
-pub fn after_e(buffer: &mut [u8; 64], lines: &[u8]) {
-    let queue = e(buffer);
-    script::run(buffer, queue, lines);
+fn left(example: Example, buffer: &mut [u8; 64]) -> Queue {
+    match example {
+        Example::B => b(buffer),
+        Example::C => c(buffer),
+        Example::E => e(buffer),
+    }
 }
 
 // A get whose limit is -2, which the readable form can't say.

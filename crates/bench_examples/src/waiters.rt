@@ -2,6 +2,7 @@
 use crate::script;
 use crate::show;
 use crate::start;
+use crate::start::Example;
 
 // Task 3 asks for 1 byte and has 4.
 fn release_wakes_three() {
@@ -14,7 +15,8 @@ fn release_wakes_three() {
 
 // 44 bytes are free: too few for task 2; enough for tasks 3 and 4, and then too few for task 5.
 fn cancel_wakes_two() {
-    start::after_b(
+    start::after(
+        Example::B,
         &mut [170; 64],
         b"# a cancel wakes two behind it, after b\n\
         get 2 40\n\
@@ -28,7 +30,8 @@ fn cancel_wakes_two() {
 
 // A run of 44 bytes would do for task 4, but task 3 came first and needs 48.
 fn head_first() {
-    start::after_c(
+    start::after(
+        Example::C,
         &mut [170; 64],
         b"# nobody is served past the head, after c\n\
         get 3 40\n\
@@ -40,7 +43,8 @@ fn head_first() {
 }
 
 fn ticks() {
-    start::after_c(
+    start::after(
+        Example::C,
         &mut [170; 64],
         b"# expiries come before service, after c\n\
         get 3 12 limit 2\n\
@@ -85,7 +89,8 @@ pub fn run() {
     head_first();
     ticks();
     limits(&mut [170; 64]);
-    start::after_b(
+    start::after(
+        Example::B,
         &mut [170; 64],
         b"# polls that are granted, after b\npoll 2 20\nget 5 4 limit 0\nshow\n",
     );
