@@ -1,4 +1,6 @@
 // The bench examples of document 01, size kinds and priorities, run by the proved calls. Each call is written with what it answers; the file `stdout` has what document 01 expects.
+#![tactic(auto)]
+
 mod blocks;
 mod examples;
 mod kinds;

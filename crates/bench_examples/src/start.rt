@@ -3,7 +3,7 @@ use crate::{script, show};
 use model::{Attributes, DEFAULTS, LOWEST_PRIORITY, Queue};
 
 // Examples whose state others begin with.
-#[derive(Drop)]
+#[derive(Clone, Copy)]
 pub enum Example {
     B,
     C,

@@ -1,5 +1,7 @@
 // Replays a log of calls from standard input on a pool of zeros whose choice of rounding and greatest request stand before it, and writes its text to
 // standard output. Both are numbers as the log has them; where one of them is none, nothing is written. The order is the log's.
+#![tactic(auto)]
+
 use model::{Attributes, FIFO_ORDER};
 use numbers::Number;
 

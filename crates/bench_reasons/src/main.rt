@@ -1,8 +1,10 @@
 // Replays a log of calls from standard input on a pool of zeros, and writes a line `reason place` for each answer. A log that cannot be
 // started writes nothing; what is no record ends it.
+#![tactic(auto)]
+
 ghost use Rattle.std.specs.Prelude.{◌≤◌, length};
 
-use log::{LONGEST_LOG, Read, Start};
+use call_log::{LONGEST_LOG, Read, Start};
 use model::{Attributes, HeaderPlace, LONGEST_POOL, Queue, WITHOUT_KINDS};
 
 fn line(reason: u32, place: HeaderPlace) {
@@ -17,7 +19,7 @@ fn play(log: &[u8], start: usize, pool: &mut [u8], first: Queue) {
     let mut queue = first;
     let mut at = start;
     while at < log.len() {
-        let read = log::read_record(&log[at..]);
+        let read = call_log::read_record(&log[at..]);
         let Read::Taken(made, size) = read else {
             return;
         };
@@ -53,7 +55,7 @@ fn lend(log: &[u8], start: usize, order: u16, buffer: &mut [u8], n: usize)
 
 // A log that is not too long.
 fn replay(log: &[u8]) {
-    let begun = log::read_start(log);
+    let begun = call_log::read_start(log);
     let Start::Taken(n, order, start) = begun else {
         return;
     };

@@ -2,6 +2,8 @@
 // A request is words of four bytes, lowest byte first: the buffer's length, the pool's length and order, the lengths of the columns kinds, firsts,
 // seconds, limits and priorities, then the columns; a limit is in two's complement. Byte i of the buffer is i % 251 before the call. What is no request
 // writes nothing.
+#![tactic(auto)]
+
 ghost use Rattle.std.specs.Prelude.{◌+◌, ◌*◌, ◌≤◌, length};
 
 use layout::header;

@@ -1,4 +1,6 @@
 // The pool's bytes: headers, the walk over them, and the changes that grant and release make.
+#![tactic(auto)]
+
 use model::{BlockOffset, HeaderPlace};
 
 pub mod change;
@@ -6,7 +8,7 @@ pub mod header;
 pub mod walk;
 
 // What a walk is to find: the first free run of at least so many bytes, the block that holds an offset, or nothing.
-#[derive(Drop)]
+#[derive(Clone, Copy)]
 pub enum Target {
     Run(usize),
     Holder(BlockOffset),
@@ -14,20 +16,20 @@ pub enum Target {
 }
 
 // A block that was found: the place of its header, and where the free bytes that end there begin (its own place if the block before it is live).
-#[derive(Drop)]
+#[derive(Clone, Copy)]
 pub struct Spot {
     pub place: HeaderPlace,
     pub free: HeaderPlace,
 }
 
-#[derive(Drop)]
+#[derive(Clone, Copy)]
 pub enum Found {
     At(Spot),
     Nothing,
 }
 
 // What a walk saw before the place `at`: where the free bytes that end there begin, and the greatest and the sum of the free runs, each less its header.
-#[derive(Drop)]
+#[derive(Clone, Copy)]
 pub struct Seen {
     pub at: usize,
     pub free: usize,
@@ -36,7 +38,7 @@ pub struct Seen {
 }
 
 // Where a walk ended: before the block sought, at the pool's end, or at what is no sound pool.
-#[derive(Drop)]
+#[derive(Clone, Copy)]
 pub enum Stop {
     Here(Seen),
     End(Seen),
@@ -44,7 +46,7 @@ pub enum Stop {
 }
 
 // What bytes are found to be: all zeros and nothing found where they are no sound pool.
-#[derive(Drop)]
+#[derive(Clone, Copy)]
 pub struct Surveyed {
     pub sound: bool,
     pub found: Found,

@@ -1,4 +1,6 @@
 // Reads a text from standard input, and writes the log that it says to standard output, or the line that is refused.
+#![tactic(auto)]
+
 use log_parser::response;
 use log_text::{LONGEST_LOG, LONGEST_TEXT};
 

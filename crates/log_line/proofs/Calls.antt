@@ -4,7 +4,7 @@ use mathlib.Core.Path.{◌≡◌, refl}
 use native.Mathlib.Omega.{arith}
 use lib.IntN.{ℤ}
 use Rattle.model.specs.Limits.{priority_order}
-use Rattle.log.specs.declared.Record.TheVariants.{PriorityGet, PriorityPoll}
+use Rattle.call_log.specs.declared.Record.TheVariants.{PriorityGet, PriorityPoll}
 use Rattle.log_text.specs.Reading.{get_with, poll_with, order_with}
 
 -- an option that is there

@@ -6,8 +6,8 @@ use native.Mathlib.Omega.{arith}
 use native.Mathlib.Numerals.{add-one}
 use lib.ListN.{length, take, drop, get_or, set, replicate, length-set, drop_of_length-le}
 use lib.Seq.{take-suc-set, get_or-set_other, drop-cons}
-use Rattle.log.proofs.Forms.{four, four_whole}
-use Rattle.log.proofs.Reading.{get_or-zeros, get_or_taken}
+use Rattle.call_log.proofs.Forms.{four, four_whole}
+use Rattle.call_log.proofs.Reading.{get_or-zeros, get_or_taken}
 use Rattle.text.specs.Words.{words_in}
 use Rattle.log_text.specs.declared.Keyword.{Keyword}
 use Rattle.log_text.specs.declared.Slot.{Slot}

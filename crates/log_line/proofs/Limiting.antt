@@ -4,7 +4,7 @@ use mathlib.Core.Path.{◌≡◌, refl}
 use mathlib.Core.Bool.{true, false}
 use native.Mathlib.Omega.{arith}
 use borrow.Author.Tests.{lt-ltb, le-ltb}
-use Rattle.log.specs.Log.{most_records}
+use Rattle.call_log.specs.Log.{most_records}
 use Rattle.log_text.specs.declared.Why.TheVariants.{TooManyRecords}
 use Rattle.log_text.specs.declared.Line.{Line}
 use Rattle.log_text.specs.declared.Line.TheVariants.{Blank, Pool, Call, Refused}

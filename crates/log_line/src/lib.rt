@@ -1,19 +1,21 @@
 // The line of a text: its words are taken from left to right.
+#![tactic(auto)]
+
 ghost use Rattle.std.specs.Prelude.{◌≤◌, ◌≡◌, true, [], ◌∷◌, drop};
-ghost use Rattle.log.specs.Record.{limit_of, limit_bound};
+ghost use Rattle.call_log.specs.Record.{limit_of, limit_bound};
 ghost use Rattle.text.specs.Words.{words_in, words_of};
 ghost use Rattle.log_text.specs.Form.{form, Bounded};
 ghost use Rattle.log_text.specs.Reading.{Arguments·taken, take_number, take_option, take_word, take_slot, take_slots, get_with, poll_with, order_with, extra, line_from, made, keyword_of, is_known, unknown, line_of, limited};
 ghost use Rattle.log_line.specs.Steps.{is_call, seen, refusal_of};
 
-use log::{MOST_RECORDS, Record};
+use call_log::{MOST_RECORDS, Record};
 use log_text::{Keyword, LIMIT_MOST, Line, NUMBER_MOST, Slot, Why};
 use model::{FIFO_ORDER, PRIORITY_ORDER};
 use text::words;
 use text::words::{Class, Numeral, Place};
 
 // What a slot takes from a line.
-#[derive(Drop)]
+#[derive(Clone, Copy)]
 enum Argument {
     // the argument, and the place after its words
     Taken(u64, usize),
@@ -214,7 +216,7 @@ fn get_with(task: u32, size: u32, limit: u64, priority: u64) -> Record
     requires { (limit ≤ limit_bound) × (priority ≤ 4294967296) }
     ensures { result ≡ get_with task size (limit_of limit) priority }
 {
-    let ticks = log::limit_of(limit as u32);
+    let ticks = call_log::limit_of(limit as u32);
     if priority == 0 {
         return Record::Get(task, size, ticks);
     }

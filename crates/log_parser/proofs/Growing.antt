@@ -11,12 +11,12 @@ use borrow.Author.Tests.{lt-ltb}
 use Rattle.numbers.specs.Wrote.{Wrote}
 use Rattle.numbers.proofs.Theorems.{encode-length}
 use Rattle.numbers.specs.Number.{encode}
-use Rattle.log.specs.declared.Record.{Record}
-use Rattle.log.specs.Record.{encode_record}
-use Rattle.log.specs.Log.{most_records, start_bytes, mark_of, encode_records, Log, bytes_of}
-use Rattle.log.proofs.Starts.{start_most}
-use Rattle.log.proofs.Theorems.{encode-record-length}
-use Rattle.log.proofs.LogTheorems.{log-length, log-most}
+use Rattle.call_log.specs.declared.Record.{Record}
+use Rattle.call_log.specs.Record.{encode_record}
+use Rattle.call_log.specs.Log.{most_records, start_bytes, mark_of, encode_records, Log, bytes_of}
+use Rattle.call_log.proofs.Starts.{start_most}
+use Rattle.call_log.proofs.Theorems.{encode-record-length}
+use Rattle.call_log.proofs.LogTheorems.{log-length, log-most}
 use Rattle.text.specs.Words.{words_of}
 use Rattle.log_text.specs.declared.Line.{Line}
 use Rattle.log_text.specs.declared.Line.TheVariants.{Blank, Pool, Call, Refused}

@@ -7,7 +7,7 @@ use mathlib.Core.Option.{Option, none, some}
 use native.Mathlib.Omega.{arith}
 use lib.Dec.{ltb}
 use lib.ListN.{length, take, drop, drop_of_length-le}
-use Rattle.log.specs.Log.{Log}
+use Rattle.call_log.specs.Log.{Log}
 use Rattle.text.specs.declared.words.Class.TheVariants.{Line}
 use Rattle.text.specs.Words.{span, pieces, lines_of, words_of}
 use Rattle.text.proofs.Pieces.{line-inside, line_next}

@@ -8,7 +8,7 @@ use lib.ListN.{length}
 use Rattle.numbers.specs.Wrote.{Wrote}
 use Rattle.numbers.specs.Fill.{outcome, Content·bytes, Content·refused, Responded}
 use Rattle.numbers.proofs.Fill.{response-short, Told, responded_done, responded_refused}
-use Rattle.log.specs.Log.{bytes_of}
+use Rattle.call_log.specs.Log.{bytes_of}
 use Rattle.text.specs.Ascii.{ascii}
 use Rattle.text.specs.Decimal.{decimal, around}
 use Rattle.log_text.specs.declared.Why.{Why}

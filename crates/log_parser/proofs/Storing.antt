@@ -12,7 +12,7 @@ use Rattle.numbers.specs.Wrote.{Wrote}
 use Rattle.numbers.specs.Fill.{outcome, bytes_in}
 use Rattle.numbers.proofs.Wrote.{wrote-append, wrote-length}
 use Rattle.numbers.proofs.Fill.{fill-short, fill_done}
-use Rattle.log.specs.Log.{Log, bytes_of}
+use Rattle.call_log.specs.Log.{Log, bytes_of}
 use Rattle.text.specs.declared.words.Class.TheVariants.{Line}
 use Rattle.text.specs.Words.{span, pieces, lines_of, words_of}
 use Rattle.text.proofs.Pieces.{line_next}

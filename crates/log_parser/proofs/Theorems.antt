@@ -4,9 +4,9 @@ use mathlib.Core.Path.{◌≡◌, refl}
 use mathlib.Core.List.{List, ◌∷◌}
 use mathlib.Core.Option.{none, some}
 use Rattle.numbers.specs.Number.{decode}
-use Rattle.log.specs.Fields.{read_fields}
-use Rattle.log.specs.Record.{record_of}
-use Rattle.log.specs.Log.{start_of, records_of, Log, bytes_of, read_log}
+use Rattle.call_log.specs.Fields.{read_fields}
+use Rattle.call_log.specs.Record.{record_of}
+use Rattle.call_log.specs.Log.{start_of, records_of, Log, bytes_of, read_log}
 use Rattle.log_text.specs.declared.Why.{Why}
 use Rattle.log_text.specs.Reading.{Parsed·log, parse}
 use Rattle.log_text.proofs.Theorems.{parse_printable, printable_read}

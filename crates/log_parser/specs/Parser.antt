@@ -1,7 +1,7 @@
 -- What the parser answers, and what it leaves in the buffer.
 use Rattle.std.specs.Prelude.{ℕ, List}
 use Rattle.numbers.specs.Fill.{Outcome, Content, Content·bytes, Content·refused, fill}
-use Rattle.log.specs.Log.{bytes_of}
+use Rattle.call_log.specs.Log.{bytes_of}
 use Rattle.log_text.specs.Reading as reading
 use Rattle.log_text.specs.Reading.{parse, Parsed·log, Parsed·refused, Parsed·tooLong}
 use Rattle.log_parser.specs.declared.Parsed as answer

@@ -1,8 +1,8 @@
 -- What the parser's steps answer: the contracts of the functions below `parse_text`.
 use Rattle.std.specs.Prelude.{ℕ, ◌≤◌, ◌≡◌, Bool, true, false, List, [], length}
 use Rattle.numbers.specs.Fill.{answer_of}
-use Rattle.log.specs.Record.{encode_record}
-use Rattle.log.specs.Log.{start_bytes, Log, bytes_of}
+use Rattle.call_log.specs.Record.{encode_record}
+use Rattle.call_log.specs.Log.{start_bytes, Log, bytes_of}
 use Rattle.log_text.specs.declared.Line.{Line}
 use Rattle.log_text.specs.declared.Line.TheVariants as line
 use Rattle.log_text.specs.Reading as reading

@@ -1,4 +1,6 @@
 // The parser: the log that a text says is written into a lent buffer.
+#![tactic(auto)]
+
 ghost use Rattle.std.specs.Prelude.{◌+◌, ◌≤◌, ◌≡◌, length};
 ghost use Rattle.std.proofs.Math.Option.{none};
 ghost use Rattle.numbers.specs.Wrote.{Wrote};
@@ -14,7 +16,7 @@ use text::words::Class;
 pub mod response;
 
 // What the parser answers.
-#[derive(Drop)]
+#[derive(Clone, Copy)]
 pub enum Parsed {
     // the length of the log
     Log(usize),

@@ -7,13 +7,13 @@ use native.Mathlib.Nat.{add-zero, zero-add}
 use lib.ListN.{length, drop, length-drop}
 use lib.Seq.{drop-drop}
 use borrow.Author.Tests.{lt-ltb, le-ltb}
-use Rattle.log.specs.declared.Record.{Record}
-use Rattle.log.specs.declared.Read.{Read}
-use Rattle.log.specs.declared.Read.TheVariants.{Taken, End, Bad}
-use Rattle.log.specs.Record.{record_of}
-use Rattle.log.specs.Log.{most_records}
-use Rattle.log.proofs.Reading.{NoRecord, no_record}
-use Rattle.log.proofs.Theorems.{record-length, record_expressible}
+use Rattle.call_log.specs.declared.Record.{Record}
+use Rattle.call_log.specs.declared.Read.{Read}
+use Rattle.call_log.specs.declared.Read.TheVariants.{Taken, End, Bad}
+use Rattle.call_log.specs.Record.{record_of}
+use Rattle.call_log.specs.Log.{most_records}
+use Rattle.call_log.proofs.Reading.{NoRecord, no_record}
+use Rattle.call_log.proofs.Theorems.{record-length, record_expressible}
 use Rattle.log_text.specs.Printing.{parts_of, parts_text, longest_line, print_records}
 use Rattle.log_printer.specs.declared.Printed.TheVariants.{TooMany}
 use Rattle.log_printer.specs.Steps.{measured, stopped}

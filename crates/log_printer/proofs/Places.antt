@@ -11,12 +11,12 @@ use Rattle.model.specs.declared.Attributes.{Attributes}
 use Rattle.model.specs.Rules.{rules}
 use Rattle.model.specs.Pool.{Stored, perform}
 use Rattle.model.proofs.Tests.{by}
-use Rattle.log.specs.declared.Start.{Start}
-use Rattle.log.specs.declared.Start.TheVariants as start
-use Rattle.log.specs.declared.Read.{Read}
-use Rattle.log.specs.declared.Read.TheVariants.{Taken, End, Bad}
-use Rattle.log.specs.Record.{record_of}
-use Rattle.log.specs.Log.{most_records, start_of}
+use Rattle.call_log.specs.declared.Start.{Start}
+use Rattle.call_log.specs.declared.Start.TheVariants as start
+use Rattle.call_log.specs.declared.Read.{Read}
+use Rattle.call_log.specs.declared.Read.TheVariants.{Taken, End, Bad}
+use Rattle.call_log.specs.Record.{record_of}
+use Rattle.call_log.specs.Log.{most_records, start_of}
 use Rattle.transcript.specs.Lines.{pool_line, bad_line}
 use Rattle.transcript.specs.Transcript as replayed
 use Rattle.transcript.specs.Transcript.{call_of, answer_text, records_text, fresh_pool, with_order, transcript_of}

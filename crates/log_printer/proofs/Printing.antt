@@ -10,9 +10,9 @@ use Rattle.numbers.specs.Wrote.{Wrote}
 use Rattle.numbers.specs.Fill.{outcome}
 use Rattle.numbers.proofs.Wrote.{Writing, writing_start, writing_next, writing_end}
 use Rattle.numbers.proofs.Fill.{fill-short, fill_done}
-use Rattle.log.specs.declared.Start.TheVariants as start
-use Rattle.log.specs.Log.{start_of}
-use Rattle.log.proofs.Starts.{begun}
+use Rattle.call_log.specs.declared.Start.TheVariants as start
+use Rattle.call_log.specs.Log.{start_of}
+use Rattle.call_log.proofs.Starts.{begun}
 use Rattle.log_text.specs.Printing as printing
 use Rattle.log_text.specs.Printing.{pool_parts, parts_text, longest_line, longest_log, Printed·text, Printed·bad, Printed·tooMany, Printed·tooLong, in_front, print_records, print}
 use Rattle.log_printer.specs.declared.Printed.{Printed}

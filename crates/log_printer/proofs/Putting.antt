@@ -11,13 +11,13 @@ use lib.Seq.{drop-drop}
 use Rattle.model.proofs.Tests.{by, clash}
 use Rattle.numbers.specs.Wrote.{Wrote}
 use Rattle.numbers.proofs.Wrote.{Writing, writing_start, writing_fits, writing_next, writing_end}
-use Rattle.log.specs.declared.Record.{Record}
-use Rattle.log.specs.declared.Read.{Read}
-use Rattle.log.specs.declared.Read.TheVariants.{Taken, End, Bad}
-use Rattle.log.specs.Record.{record_of}
-use Rattle.log.specs.Log.{most_records}
-use Rattle.log.proofs.Reading.{NoRecord, no_record}
-use Rattle.log.proofs.Theorems.{record-length}
+use Rattle.call_log.specs.declared.Record.{Record}
+use Rattle.call_log.specs.declared.Read.{Read}
+use Rattle.call_log.specs.declared.Read.TheVariants.{Taken, End, Bad}
+use Rattle.call_log.specs.Record.{record_of}
+use Rattle.call_log.specs.Log.{most_records}
+use Rattle.call_log.proofs.Reading.{NoRecord, no_record}
+use Rattle.call_log.proofs.Theorems.{record-length}
 use Rattle.log_text.specs.Printing.{parts_of, parts_text, print_records}
 use Rattle.log_printer.specs.Steps.{is_text, text_in, Room}
 use Rattle.log_text.proofs.Records.{print_skip, print_end, print_bad, print_taken}

@@ -1,8 +1,8 @@
 -- What the printer's steps answer: the contracts of the functions below `print_log`.
 use Rattle.std.specs.Prelude.{ℕ, ◌+◌, ◌≤◌, ◌≡◌, Bool, true, List, length}
 use Rattle.numbers.specs.Fill.{answer_of, is_bytes, bytes_in}
-use Rattle.log.specs.declared.Read.{Read}
-use Rattle.log.specs.declared.Read.TheVariants as read
+use Rattle.call_log.specs.declared.Read.{Read}
+use Rattle.call_log.specs.declared.Read.TheVariants as read
 use Rattle.log_text.specs.Printing as printing
 use Rattle.log_text.specs.Printing.{print_records}
 use Rattle.log_printer.specs.declared.Printed.{Printed}

@@ -1,4 +1,6 @@
 // The printer: the canonical text of a log is written into a lent buffer.
+#![tactic(auto)]
+
 ghost use Rattle.std.specs.Prelude.{◌+◌, ◌≤◌, ◌≡◌, ◌++◌, length};
 ghost use Rattle.numbers.specs.Wrote.{Wrote};
 ghost use Rattle.numbers.specs.Fill.{outcome};
@@ -9,13 +11,13 @@ ghost use Rattle.log_text.specs.Printing.{longest_line, parts, pool_parts, parts
 ghost use Rattle.log_printer.specs.Printer.{print_log};
 ghost use Rattle.log_printer.specs.Steps.{measured, stopped, text_in, Room};
 
-use log::{MOST_RECORDS, Read, Record, Start};
+use call_log::{MOST_RECORDS, Read, Record, Start};
 use log_text::{Keyword, LONGEST_LOG, Parts, Slot};
 
 pub mod response;
 
 // What the printer answers.
-#[derive(Drop)]
+#[derive(Clone, Copy)]
 pub enum Printed {
     // the length of the text
     Text(usize),
@@ -36,7 +38,7 @@ pub fn print_log(log: &[u8], buf: &mut [u8]) -> Printed
     if LONGEST_LOG < log.len() {
         return Printed::TooLong;
     }
-    let begun = log::read_start(log);
+    let begun = call_log::read_start(log);
     let Start::Taken(n, order, place) = begun else {
         return Printed::Bad(0);
     };
@@ -62,7 +64,7 @@ fn measure(log: &[u8], place: usize, first: usize) -> Printed
     let mut count: usize = 0;
     let mut length = first;
     loop {
-        let read = log::read_record(&log[at..]);
+        let read = call_log::read_record(&log[at..]);
         let Read::Taken(item, size) = read else {
             return stop(read, at, length);
         };
@@ -103,7 +105,7 @@ fn put_records(buf: &mut [u8], at: usize, log: &[u8], place: usize) -> usize
     let mut end = at;
     let mut next = place;
     loop {
-        let read = log::read_record(&log[next..]);
+        let read = call_log::read_record(&log[next..]);
         let Read::Taken(item, size) = read else {
             return end;
         };
@@ -125,7 +127,7 @@ fn parts_of(item: Record) -> Parts
 {
     match item {
         Record::Get(task, size, limit) => {
-            let field = log::limit_field(limit);
+            let field = call_log::limit_field(limit);
             make_parts(Keyword::Get, task, size, field as u64, 0)
         }
         Record::Poll(task, size) => make_parts(Keyword::Poll, task, size, 0, 0),
@@ -133,7 +135,7 @@ fn parts_of(item: Record) -> Parts
         Record::Cancel(task) => make_parts(Keyword::Cancel, task, 0, 0, 0),
         Record::Tick => make_parts(Keyword::Tick, 0, 0, 0, 0),
         Record::PriorityGet(task, size, limit, priority) => {
-            let field = log::limit_field(limit);
+            let field = call_log::limit_field(limit);
             make_parts(Keyword::Get, task, size, field as u64, priority as u64 + 1)
         }
         Record::PriorityPoll(task, size, priority) => {

@@ -11,10 +11,10 @@ use Rattle.model.specs.Limits.{fifo_order}
 use Rattle.model.specs.Rules.{ok_order}
 use Rattle.model.proofs.Tests.{by}
 use Rattle.numbers.specs.Number.{number_bound}
-use Rattle.log.specs.declared.Record.{Record}
-use Rattle.log.specs.declared.Record.TheVariants as record_of
-use Rattle.log.specs.Record.{limit_of, limit_field, fields_of, Expressible}
-use Rattle.log.proofs.Forms.{field_limit, limit_field_lem}
+use Rattle.call_log.specs.declared.Record.{Record}
+use Rattle.call_log.specs.declared.Record.TheVariants as record_of
+use Rattle.call_log.specs.Record.{limit_of, limit_field, fields_of, Expressible}
+use Rattle.call_log.proofs.Forms.{field_limit, limit_field_lem}
 use Rattle.text.specs.declared.words.Numeral.{Numeral}
 use Rattle.text.specs.declared.words.Numeral.TheVariants.{Value, TooLarge, Other}
 use Rattle.text.specs.Decimal.{value_of, all_digits}

@@ -8,10 +8,10 @@ use native.Mathlib.Numerals.{add-one}
 use lib.Dec.{leb}
 use lib.ListN.{length, take, get_or}
 use Rattle.model.proofs.Tests.{by}
-use Rattle.log.specs.declared.Record.{Record}
-use Rattle.log.specs.declared.Record.TheVariants as record_of
-use Rattle.log.specs.Record.{limit_of, limit_field}
-use Rattle.log.proofs.Forms.{four, take_four}
+use Rattle.call_log.specs.declared.Record.{Record}
+use Rattle.call_log.specs.declared.Record.TheVariants as record_of
+use Rattle.call_log.specs.Record.{limit_of, limit_field}
+use Rattle.call_log.proofs.Forms.{four, take_four}
 use Rattle.text.specs.declared.words.Numeral.{Numeral}
 use Rattle.text.specs.declared.words.Numeral.TheVariants.{Value, TooLarge, Other}
 use Rattle.text.specs.Decimal.{decimal, value_of, all_digits}

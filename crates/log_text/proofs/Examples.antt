@@ -6,10 +6,10 @@ use mathlib.Core.List.{List, [], ◌∷◌, ◌++◌, map}
 use lib.IntN.{pos, negsuc}
 use Rattle.model.specs.Limits.{fifo_order, priority_order}
 use Rattle.numbers.specs.Number.{decode}
-use Rattle.log.specs.declared.Record.TheVariants.{Get, Poll, Release, Cancel, Tick, PriorityGet, PriorityPoll}
-use Rattle.log.specs.Fields.{read_fields}
-use Rattle.log.specs.Record.{limit_of, limit_field, record_of}
-use Rattle.log.specs.Log.{start_of, Log}
+use Rattle.call_log.specs.declared.Record.TheVariants.{Get, Poll, Release, Cancel, Tick, PriorityGet, PriorityPoll}
+use Rattle.call_log.specs.Fields.{read_fields}
+use Rattle.call_log.specs.Record.{limit_of, limit_field, record_of}
+use Rattle.call_log.specs.Log.{start_of, Log}
 use Rattle.text.specs.Ascii.{ascii}
 use Rattle.text.specs.Decimal.{digits, value_from, all_digits}
 use Rattle.text.specs.Words.{span, pieces, nonempty, same, numeral_of}

@@ -11,10 +11,10 @@ use borrow.Author.Tests.{ltb-true}
 use Rattle.model.specs.Rules.{ok_order}
 use Rattle.model.proofs.Tests.{by}
 use Rattle.numbers.specs.Number.{number_bound}
-use Rattle.log.specs.declared.Record.{Record}
-use Rattle.log.specs.Record.{Expressible}
-use Rattle.log.specs.Log.{most_records, AllExpressible, Log}
-use Rattle.log.proofs.Forms.{four, four_at}
+use Rattle.call_log.specs.declared.Record.{Record}
+use Rattle.call_log.specs.Record.{Expressible}
+use Rattle.call_log.specs.Log.{most_records, AllExpressible, Log}
+use Rattle.call_log.proofs.Forms.{four, four_at}
 use Rattle.text.specs.Words.{lines_of, words_of, same}
 use Rattle.log_text.specs.declared.Keyword.{Keyword}
 use Rattle.log_text.specs.declared.Keyword.TheVariants as keyword

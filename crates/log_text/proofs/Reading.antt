@@ -10,11 +10,11 @@ use lib.ListN.{length, length-append}
 use borrow.Author.Tests.{le-leb, lt-ltb}
 use Rattle.model.specs.Rules.{ok_order}
 use Rattle.numbers.specs.Number.{number_bound}
-use Rattle.log.specs.declared.Record.{Record}
-use Rattle.log.specs.declared.Record.TheVariants as record_of
-use Rattle.log.specs.Record.{limit_of, limit_field, Expressible}
-use Rattle.log.specs.Log.{most_records, AllExpressible, Log}
-use Rattle.log.proofs.Forms.{limit_field_lem}
+use Rattle.call_log.specs.declared.Record.{Record}
+use Rattle.call_log.specs.declared.Record.TheVariants as record_of
+use Rattle.call_log.specs.Record.{limit_of, limit_field, Expressible}
+use Rattle.call_log.specs.Log.{most_records, AllExpressible, Log}
+use Rattle.call_log.proofs.Forms.{limit_field_lem}
 use Rattle.text.specs.declared.words.Numeral.TheVariants.{Value}
 use Rattle.text.specs.Decimal.{decimal}
 use Rattle.text.specs.Words.{pieces, lines_of, words_of, same, numeral_of}

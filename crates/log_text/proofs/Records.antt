@@ -10,13 +10,13 @@ use lib.Dec.{ltb}
 use lib.ListN.{length, drop}
 use borrow.Author.Tests.{ltb-true, lt-ltb}
 use Rattle.model.proofs.Tests.{by}
-use Rattle.log.specs.declared.Record.{Record}
-use Rattle.log.specs.declared.Read.{Read}
-use Rattle.log.specs.declared.Read.TheVariants.{Taken, End, Bad}
-use Rattle.log.specs.Record.{record_of}
-use Rattle.log.specs.Log.{most_records, records_of}
-use Rattle.log.proofs.Theorems.{record-length}
-use Rattle.log.proofs.Logs.{records_ind}
+use Rattle.call_log.specs.declared.Record.{Record}
+use Rattle.call_log.specs.declared.Read.{Read}
+use Rattle.call_log.specs.declared.Read.TheVariants.{Taken, End, Bad}
+use Rattle.call_log.specs.Record.{record_of}
+use Rattle.call_log.specs.Log.{most_records, records_of}
+use Rattle.call_log.proofs.Theorems.{record-length}
+use Rattle.call_log.proofs.Logs.{records_ind}
 use Rattle.log_text.specs.Printing.{parts_of, parts_text, records_text, Printed, Printed·text, Printed·bad, Printed·tooMany, Printed·tooLong, in_front, print_records}
 
 -- passing over bytes is going on behind them

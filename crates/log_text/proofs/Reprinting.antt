@@ -7,8 +7,8 @@ use native.Mathlib.Omega.{arith}
 use lib.Dec.{leb}
 use lib.ListN.{length}
 use Rattle.model.proofs.Tests.{by}
-use Rattle.log.specs.declared.Record.{Record}
-use Rattle.log.specs.Log.{Log}
+use Rattle.call_log.specs.declared.Record.{Record}
+use Rattle.call_log.specs.Log.{Log}
 use Rattle.text.specs.Decimal.{decimal, all_digits}
 use Rattle.text.specs.Words.{pieces, lines_of, words_of}
 use Rattle.text.proofs.Theorems.{value_decimal}

@@ -9,11 +9,11 @@ use lib.ListN.{length}
 use borrow.Author.Tests.{le-leb}
 use Rattle.model.proofs.Tests.{by}
 use Rattle.numbers.specs.Number.{Bytes}
-use Rattle.log.specs.declared.Start.{Start}
-use Rattle.log.specs.declared.Start.TheVariants as start
-use Rattle.log.specs.Log.{most_records, start_of, Log, bytes_of, read_log}
-use Rattle.log.proofs.Logs.{whole}
-use Rattle.log.proofs.LogTheorems.{log-length, log-most, read_log_lem, log_read, log_expressible}
+use Rattle.call_log.specs.declared.Start.{Start}
+use Rattle.call_log.specs.declared.Start.TheVariants as start
+use Rattle.call_log.specs.Log.{most_records, start_of, Log, bytes_of, read_log}
+use Rattle.call_log.proofs.Logs.{whole}
+use Rattle.call_log.proofs.LogTheorems.{log-length, log-most, read_log_lem, log_read, log_expressible}
 use Rattle.log_text.specs.Reading.{Parsed·log, parse}
 use Rattle.log_text.specs.Printing.{pool_parts, parts_text, Printable, text_of, longest_log, Printed·text, print_records, print_start, print}
 use Rattle.log_text.specs.Canonical.{Canonical}

@@ -7,8 +7,8 @@ use native.Mathlib.Omega.{arith}
 use lib.ListN.{length, length-append}
 use Rattle.model.specs.Rules.{ok_order}
 use Rattle.numbers.specs.Number.{number_bound}
-use Rattle.log.specs.declared.Record.{Record}
-use Rattle.log.specs.Record.{Expressible}
+use Rattle.call_log.specs.declared.Record.{Record}
+use Rattle.call_log.specs.Record.{Expressible}
 use Rattle.text.specs.Decimal.{decimal}
 use Rattle.text.proofs.Decimal.{length_half}
 use Rattle.log_text.specs.declared.Keyword.{Keyword}

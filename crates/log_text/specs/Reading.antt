@@ -2,10 +2,10 @@
 use Rattle.std.specs.Prelude.{ℕ, zero, suc, ◌+◌, List, [], ◌∷◌, ◌++◌, Bool, true, false, cond, leb, ltb, ℤ, length, get_or}
 use Rattle.std.proofs.Math.Option.{Option, none, some}
 use Rattle.model.specs.Limits.{fifo_order, priority_order}
-use Rattle.log.specs.declared.Record.{Record}
-use Rattle.log.specs.declared.Record.TheVariants as record_of
-use Rattle.log.specs.Record.{limit_of}
-use Rattle.log.specs.Log.{most_records, Log}
+use Rattle.call_log.specs.declared.Record.{Record}
+use Rattle.call_log.specs.declared.Record.TheVariants as record_of
+use Rattle.call_log.specs.Record.{limit_of}
+use Rattle.call_log.specs.Log.{most_records, Log}
 use Rattle.text.specs.declared.words.Numeral.{Numeral}
 use Rattle.text.specs.declared.words.Numeral.TheVariants.{Value, TooLarge, Other}
 use Rattle.text.specs.Words.{lines_of, words_of, same, numeral_of}

@@ -1,13 +1,15 @@
 // The text form of a log: the words of its lines, and what stands behind each.
+#![tactic(auto)]
+
 ghost use Rattle.std.specs.Prelude.{◌+◌, ◌≤◌, ◌≡◌, length, get_or};
 ghost use Rattle.numbers.specs.Wrote.{Wrote};
 ghost use Rattle.log_text.specs.Form.{form};
 ghost use Rattle.log_text.specs.Reasons.{why_text};
 
-use log::Record;
+use call_log::Record;
 
 // The first word of a line.
-#[derive(Drop)]
+#[derive(Clone, Copy)]
 pub enum Keyword {
     Pool,
     Get,
@@ -19,7 +21,7 @@ pub enum Keyword {
 }
 
 // What may stand at a place behind the first word.
-#[derive(Drop)]
+#[derive(Clone, Copy)]
 pub enum Slot {
     // a number
     Number,
@@ -32,7 +34,7 @@ pub enum Slot {
 }
 
 // Why a line is refused.
-#[derive(Drop)]
+#[derive(Clone, Copy)]
 pub enum Why {
     UnknownWord,
     MissingNumber,
@@ -43,7 +45,7 @@ pub enum Why {
 }
 
 // What a line says.
-#[derive(Drop)]
+#[derive(Clone, Copy)]
 pub enum Line {
     // it has no words
     Blank,
@@ -55,7 +57,7 @@ pub enum Line {
 
 // A line as its first word and an argument for each slot, then zeros. The argument of a number is the number, and that of an
 // option is 0 where it is not there, else its number plus 1, or 1 where it has none.
-#[derive(Drop)]
+#[derive(Clone, Copy)]
 pub struct Parts {
     pub keyword: Keyword,
     pub arguments: [u64; 4],

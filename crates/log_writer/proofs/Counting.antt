@@ -8,7 +8,7 @@ use lib.ListN.{length, drop, get_or, drop_of_length-le}
 use lib.Seq.{drop-cons}
 use Rattle.numbers.specs.Number.{number_bound, encode}
 use Rattle.numbers.proofs.Theorems.{encode-length}
-use Rattle.log.specs.Fields.{fields_length}
+use Rattle.call_log.specs.Fields.{fields_length}
 use Rattle.log_writer.specs.Steps.{Counted}
 
 -- the bytes of the first i numbers were counted

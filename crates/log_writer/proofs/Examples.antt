@@ -7,10 +7,10 @@ use lib.ListN.{replicate}
 use Rattle.model.specs.Limits.{fifo_order, priority_order, e_par, e_nomem}
 use Rattle.numbers.specs.Number.{groups}
 use Rattle.numbers.specs.Fill.{outcome}
-use Rattle.log.specs.Fields.{encode_fields}
-use Rattle.log.specs.Record.{limit_field, fields_of}
-use Rattle.log.specs.Log.{encode_records}
-use Rattle.log.proofs.Examples.{log}
+use Rattle.call_log.specs.Fields.{encode_fields}
+use Rattle.call_log.specs.Record.{limit_field, fields_of}
+use Rattle.call_log.specs.Log.{encode_records}
+use Rattle.call_log.proofs.Examples.{log}
 use Rattle.log_writer.specs.Writer.{Columns, columns, given_from, writable, written, refusal, write_log}
 
 -- the records of the log, with other numbers in the fields that a kind does not have

@@ -11,20 +11,20 @@ use lib.IntN.{ℤ}
 use lib.ListN.{length, take, length-take}
 use Rattle.model.proofs.Tests.{by}
 use Rattle.numbers.specs.Number.{number_bound}
-use Rattle.log.specs.declared.Record.{Record}
-use Rattle.log.specs.declared.Record.TheVariants.{Get, Poll, Release, Cancel, Tick, PriorityGet, PriorityPoll}
-use Rattle.log.specs.declared.Kind.{Kind}
-use Rattle.log.specs.declared.Kind.TheVariants as kind
-use Rattle.log.specs.declared.Read.TheVariants.{Taken}
+use Rattle.call_log.specs.declared.Record.{Record}
+use Rattle.call_log.specs.declared.Record.TheVariants.{Get, Poll, Release, Cancel, Tick, PriorityGet, PriorityPoll}
+use Rattle.call_log.specs.declared.Kind.{Kind}
+use Rattle.call_log.specs.declared.Kind.TheVariants as kind
+use Rattle.call_log.specs.declared.Read.TheVariants.{Taken}
 use Rattle.log_writer.specs.declared.Row.{Row}
-use Rattle.log.specs.Fields.{Small}
-use Rattle.log.specs.Record.{limit_bound, limit_of, limit_field, is_limit, fields_of, kind_of, field_count, limited_by, record_from, Limited, Expressible}
-use Rattle.log.specs.Log.{encode_records, AllExpressible}
+use Rattle.call_log.specs.Fields.{Small}
+use Rattle.call_log.specs.Record.{limit_bound, limit_of, limit_field, is_limit, fields_of, kind_of, field_count, limited_by, record_from, Limited, Expressible}
+use Rattle.call_log.specs.Log.{encode_records, AllExpressible}
 use Rattle.log_writer.specs.Writer.{given_as, given, Columns, row_at, given_from, row_of, columns_of, Typed}
 use Rattle.log_writer.specs.Steps.{is_some, third_of, row_fields, numbers_of, Holds, rows_bytes}
-use Rattle.log.proofs.Fields.{small-take}
-use Rattle.log.proofs.Forms.{Made, made_inv, count-few, limit_field_lem, limit-within}
-use Rattle.log.proofs.Logs.{no_some, front}
+use Rattle.call_log.proofs.Fields.{small-take}
+use Rattle.call_log.proofs.Forms.{Made, made_inv, count-few, limit_field_lem, limit-within}
+use Rattle.call_log.proofs.Logs.{no_some, front}
 
 -- a get is a record exactly if its limit is one
 pub limit-given : (w : Row) (r : Record) → is_limit w.limit ≡ is_some (cond (is_limit w.limit) (some r) none)

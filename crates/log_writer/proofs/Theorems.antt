@@ -15,9 +15,9 @@ use Rattle.numbers.specs.Number.{Bytes, number_bound}
 use Rattle.numbers.specs.Fill.{Outcome, outcome}
 use Rattle.numbers.proofs.Decode.{side}
 use Rattle.numbers.proofs.Fill.{fill-short, fill-whole}
-use Rattle.log.specs.declared.Record.{Record}
-use Rattle.log.specs.Log.{most_records, log_of, log_length, AllExpressible, Log, read_log}
-use Rattle.log.proofs.LogTheorems.{log-length, read_log_lem, log_read, log_expressible}
+use Rattle.call_log.specs.declared.Record.{Record}
+use Rattle.call_log.specs.Log.{most_records, log_of, log_length, AllExpressible, Log, read_log}
+use Rattle.call_log.proofs.LogTheorems.{log-length, read_log_lem, log_read, log_expressible}
 use Rattle.log_writer.specs.Writer.{Columns, Written, writable, written, refusal, write_log, columns_of, Typed}
 use Rattle.log_writer.specs.Steps.{Level}
 use Rattle.log_writer.proofs.Rows.{given-all, given-columns}

@@ -17,16 +17,16 @@ use Rattle.numbers.specs.Wrote.{Wrote}
 use Rattle.numbers.specs.Fill.{outcome}
 use Rattle.numbers.proofs.Wrote.{Writing, writing_start, writing_next, writing_end}
 use Rattle.numbers.proofs.Fill.{fill-short, fill_done}
-use Rattle.log.specs.declared.Record.{Record}
+use Rattle.call_log.specs.declared.Record.{Record}
 use Rattle.log_writer.specs.declared.Row.{Row}
 use Rattle.log_writer.specs.declared.Needed.TheVariants.{Length, Refused}
-use Rattle.log.specs.Fields.{encode_fields, fields_length}
-use Rattle.log.specs.Record.{fields_of}
-use Rattle.log.specs.Log.{most_records, start_bytes, encode_records, log_of, records_length, log_length, in_front}
+use Rattle.call_log.specs.Fields.{encode_fields, fields_length}
+use Rattle.call_log.specs.Record.{fields_of}
+use Rattle.call_log.specs.Log.{most_records, start_bytes, encode_records, log_of, records_length, log_length, in_front}
 use Rattle.log_writer.specs.Writer.{given, Columns, row_at, given_from, level, writable, written, refusal, write_log}
 use Rattle.log_writer.specs.Steps.{Level, Started, is_some, needed_after, needed_for, numbers_of, Counted, rows_bytes}
-use Rattle.log.proofs.Logs.{no_some}
-use Rattle.log.proofs.LogTheorems.{log-length}
+use Rattle.call_log.proofs.Logs.{no_some}
+use Rattle.call_log.proofs.LogTheorems.{log-length}
 use Rattle.log_writer.proofs.Rows.{given_numbers, numbers_few, given-bytes}
 
 -- ---- the tests of the columns

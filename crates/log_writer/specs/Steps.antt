@@ -1,15 +1,15 @@
 -- What the writer's steps answer: the contracts of the functions below `write_log`.
 use Rattle.std.specs.Prelude.{ℕ, zero, suc, ◌+◌, ◌*◌, ◌≤◌, ◌≡◌, Bool, true, false, List, [], ◌∷◌, ◌++◌, length, take}
 use Rattle.std.proofs.Math.Option.{Option, none, some}
-use Rattle.log.specs.declared.Record.{Record}
-use Rattle.log.specs.declared.Kind.{Kind}
-use Rattle.log.specs.declared.Kind.TheVariants as kind
+use Rattle.call_log.specs.declared.Record.{Record}
+use Rattle.call_log.specs.declared.Kind.{Kind}
+use Rattle.call_log.specs.declared.Kind.TheVariants as kind
 use Rattle.log_writer.specs.declared.Row.{Row}
 use Rattle.log_writer.specs.declared.Needed.{Needed}
 use Rattle.log_writer.specs.declared.Needed.TheVariants.{Length, Refused}
-use Rattle.log.specs.Fields.{encode_fields, fields_length}
-use Rattle.log.specs.Record.{limit_field, kind_of, field_count}
-use Rattle.log.specs.Log.{start_bytes, records_length}
+use Rattle.call_log.specs.Fields.{encode_fields, fields_length}
+use Rattle.call_log.specs.Record.{limit_field, kind_of, field_count}
+use Rattle.call_log.specs.Log.{start_bytes, records_length}
 use Rattle.log_writer.specs.Writer.{Columns, row_at, writable}
 
 -- the columns are equally long

@@ -5,14 +5,14 @@ use Rattle.model.specs.Limits.{e_ok, e_par, e_nomem}
 use Rattle.model.specs.Rules.{ok_order}
 use Rattle.numbers.specs.Number.{number_bound}
 use Rattle.numbers.specs.Fill.{Outcome, Content, Content·bytes, Content·refused, fill}
-use Rattle.log.specs.declared.Record.{Record}
-use Rattle.log.specs.declared.Record.TheVariants.{Get, Poll, Release, Cancel, Tick, PriorityGet, PriorityPoll}
-use Rattle.log.specs.declared.Kind.{Kind}
-use Rattle.log.specs.declared.Kind.TheVariants as kind
+use Rattle.call_log.specs.declared.Record.{Record}
+use Rattle.call_log.specs.declared.Record.TheVariants.{Get, Poll, Release, Cancel, Tick, PriorityGet, PriorityPoll}
+use Rattle.call_log.specs.declared.Kind.{Kind}
+use Rattle.call_log.specs.declared.Kind.TheVariants as kind
 pub use Rattle.log_writer.specs.declared.Row.{Row}
 pub use Rattle.log_writer.specs.declared.Written.{Written}
-use Rattle.log.specs.Record.{limit_bound, limit_field, is_limit, kind_of}
-use Rattle.log.specs.Log.{most_records, log_of, in_front}
+use Rattle.call_log.specs.Record.{limit_bound, limit_field, is_limit, kind_of}
+use Rattle.call_log.specs.Log.{most_records, log_of, in_front}
 
 -- ---- the records that are given
 

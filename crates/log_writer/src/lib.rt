@@ -1,25 +1,27 @@
 // The log writer: a pool's length and order and records, given in columns, are written into a lent buffer.
+#![tactic(auto)]
+
 ghost use Rattle.std.specs.Prelude.{◌≡◌, ◌+◌, ◌≤◌, ◌<◌, length};
 ghost use Rattle.numbers.specs.Wrote.{Wrote};
 ghost use Rattle.numbers.specs.Fill.{outcome};
-ghost use Rattle.log.specs.Fields.{encode_fields};
-ghost use Rattle.log.specs.Record.{encode_record};
+ghost use Rattle.call_log.specs.Fields.{encode_fields};
+ghost use Rattle.call_log.specs.Record.{encode_record};
 ghost use Rattle.log_writer.specs.Writer.{given, row, row_of, columns, level, row_at, refusal, write_log};
-ghost use Rattle.log.specs.Log.{start_bytes};
+ghost use Rattle.call_log.specs.Log.{start_bytes};
 ghost use Rattle.log_writer.specs.Steps.{Level, Started, is_some, needed_for, third_of, numbers_of, Holds, Counted, rows_bytes};
 
-use log::{Kind, MOST_RECORDS, ORDER_MARK, Record};
+use call_log::{Kind, MOST_RECORDS, ORDER_MARK, Record};
 use model::{E_NOMEM, E_PAR, FIFO_ORDER, PRIORITY_ORDER};
 
 // What the writer answers: 0 and the length of the log, or a refusal and 0.
-#[derive(Drop)]
+#[derive(Clone, Copy)]
 pub struct Written {
     pub code: i32,
     pub length: usize,
 }
 
 // A record as it is given: the number of its kind, and its fields. Those that the kind does not have are not looked at.
-#[derive(Drop)]
+#[derive(Clone, Copy)]
 struct Row {
     kind: u32,
     first: u32,
@@ -29,14 +31,14 @@ struct Row {
 }
 
 // The numbers of a record: the first `count` of the values.
-#[derive(Drop)]
+#[derive(Clone, Copy)]
 struct Numbers {
     values: [u32; 5],
     count: usize,
 }
 
 // How many bytes a log needs.
-#[derive(Drop)]
+#[derive(Clone, Copy)]
 enum Needed {
     Length(usize),
     // it cannot be written, whatever the buffer
@@ -208,7 +210,7 @@ fn row_at(
 fn is_given(row: Row) -> bool
     ensures { result ≡ is_some (given row) }
 {
-    let kind = log::kind_of(row.kind);
+    let kind = call_log::kind_of(row.kind);
     match kind {
         Kind::Get => -1 <= row.limit,
         Kind::Poll => true,
@@ -225,8 +227,8 @@ fn is_given(row: Row) -> bool
 fn numbers_of(row: Row) -> Numbers
     ensures { Holds result.values result.count (numbers_of row) }
 {
-    let kind = log::kind_of(row.kind);
-    let count = log::field_count(kind);
+    let kind = call_log::kind_of(row.kind);
+    let count = call_log::field_count(kind);
     Numbers {
         values: [
             row.kind,
@@ -244,12 +246,12 @@ fn third_of(kind: Kind, row: Row) -> u32
     ensures { result ≡ third_of kind row }
 {
     match kind {
-        Kind::Get => log::limit_field(row.limit),
+        Kind::Get => call_log::limit_field(row.limit),
         Kind::Poll => 0,
         Kind::Release => 0,
         Kind::Cancel => 0,
         Kind::Tick => 0,
-        Kind::PriorityGet => log::limit_field(row.limit),
+        Kind::PriorityGet => call_log::limit_field(row.limit),
         Kind::PriorityPoll => row.priority,
         Kind::Unknown => 0,
     }

@@ -82,12 +82,12 @@ pub record Result : Type 0 where
   pub answer : Answer
   pub bytes : List ℕ
 
-abbrev pub result : Answer → List ℕ → Result
-result a l = record { answer = a; bytes = l }
+abbrev pub result_of : Answer → List ℕ → Result
+result_of a l = record { answer = a; bytes = l }
 
 abbrev pub answered : Reply Stored → Result
 answered r =
-    result
+    result_of
     (record { code = r.said.code; offset = r.said.offset; reason = r.said.reason; place = r.said.place; woken = woken_of r.said.woken; queue = r.state.queue })
     r.state.bytes
 

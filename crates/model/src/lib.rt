@@ -1,4 +1,5 @@
 // The values that the calls of the pool take and answer.
+#![tactic(auto)]
 
 // Tasks are numbered 1 to TASKS; the queue and the list of woken tasks have as many places.
 pub const TASKS: usize = 32;
@@ -39,15 +40,15 @@ pub const ALREADY_FREE: u32 = 3;
 pub const INSIDE_BLOCK: u32 = 4;
 
 // The offset of a block, as handed to tasks: the place of its header plus 8.
-#[derive(Drop)]
+#[derive(Clone, Copy)]
 pub struct BlockOffset(pub usize);
 
 // The place of a header in the pool.
-#[derive(Drop)]
+#[derive(Clone, Copy)]
 pub struct HeaderPlace(pub usize);
 
 // A waiting request: the task, the priority, 1 best, the size as asked, and the ticks left (FOREVER: no limit). All zeros: an unused place.
-#[derive(Drop)]
+#[derive(Clone, Copy)]
 pub struct Entry {
     pub task: u16,
     pub priority: u16,
@@ -71,7 +72,7 @@ pub const FIFO_ORDER: u16 = 0;
 pub const PRIORITY_ORDER: u16 = 1;
 
 // What create is told of a pool, and the queue keeps: the choices of rounding and of order, and the greatest request of a pool with kinds (0 without).
-#[derive(Drop)]
+#[derive(Clone, Copy)]
 pub struct Attributes {
     pub kinds: u16,
     pub order: u16,
@@ -86,14 +87,14 @@ pub const DEFAULTS: Attributes = Attributes {
 };
 
 // The waiting queue: what was chosen for the pool, and the entries in order, zeros in the places past the last.
-#[derive(Drop)]
+#[derive(Clone, Copy)]
 pub struct Queue {
     pub attributes: Attributes,
     pub entries: [Entry; TASKS],
 }
 
 // A task whose wait ended: with code 0 and the offset of its block, or with another code and offset 0. All zeros: an unused place.
-#[derive(Drop)]
+#[derive(Clone, Copy)]
 pub struct Woken {
     pub task: u32,
     pub code: i32,
@@ -102,7 +103,7 @@ pub struct Woken {
 
 // What a call answers, with the queue that it leaves. Reason and place are those of a refused release, and 0 in every other answer; the place is
 // the header of the block that holds the offset, and 0 where the offset is out of range or no multiple of 4.
-#[derive(Drop)]
+#[derive(Clone, Copy)]
 pub struct Answer {
     pub code: i32,
     pub offset: BlockOffset,
@@ -113,7 +114,7 @@ pub struct Answer {
 }
 
 // What inquire answers: the sum and the greatest of the free runs, each less its header, and the head's task or 0.
-#[derive(Drop)]
+#[derive(Clone, Copy)]
 pub struct Totals {
     pub code: i32,
     pub sum: usize,

@@ -1,9 +1,11 @@
 // Seven-bit numbers: groups of seven bits, lowest group first, the high bit (128) set on every byte but the last.
+#![tactic(auto)]
+
 ghost use Rattle.std.specs.Prelude.{◌≡◌, length};
 ghost use Rattle.numbers.specs.Number.{number_of, encode};
 ghost use Rattle.numbers.specs.Wrote.{Wrote, fitted};
 
-#[derive(Drop)]
+#[derive(Clone, Copy)]
 pub enum Number {
     // the number, and the count of its bytes
     Value(u32, usize),

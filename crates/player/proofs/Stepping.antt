@@ -10,10 +10,10 @@ use Rattle.model.specs.declared.Queue.{Queue}
 use Rattle.model.specs.declared.Woken.{Woken}
 use Rattle.model.specs.Limits.{most_tasks}
 use Rattle.model.specs.Places.{no_woken, pad}
-use Rattle.model.specs.Pool.{Result, Stored, stored, result, called}
+use Rattle.model.specs.Pool.{Result, Stored, stored, result_of, called}
 use Rattle.numbers.specs.Wrote.{Wrote}
 use Rattle.numbers.proofs.Wrote.{wrote-append}
-use Rattle.log.specs.declared.Record.{Record}
+use Rattle.call_log.specs.declared.Record.{Record}
 use Rattle.transcript.specs.Lines.{answer_line, woken_line, longest_answer, longest_line}
 use Rattle.transcript.specs.Transcript.{call_of, woken_text, answer_text}
 use Rattle.player.specs.Steps.{reply_to, Stepped}
@@ -73,7 +73,7 @@ take-pad (suc n) (suc i) (w ∷ ws) v h u z =
 
 -- ---- the step
 
-pub stepped : {l l' out mid out' : List ℕ} {q : Queue} {r : Record} {at next end i : ℕ} (a : Answer) → result a l' ≡ called (call_of r) l q
+pub stepped : {l l' out mid out' : List ℕ} {q : Queue} {r : Record} {at next end i : ℕ} (a : Answer) → result_of a l' ≡ called (call_of r) l q
     → Wrote out at (answer_line a.code a.offset.0) mid next → Writing at mid next a.woken out' end i
     → (i < most_tasks → (get_or a.woken i no_woken).task ≡ 0) → Stepped l q r out at l' out' (record { queue = a.queue; end = end })
 unfolding answer_text

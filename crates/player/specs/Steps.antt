@@ -6,9 +6,9 @@ use Rattle.model.specs.Rules.{rules}
 use Rattle.model.specs.Calls.{Reply}
 use Rattle.model.specs.Pool.{Stored, stored, perform}
 use Rattle.numbers.specs.Wrote.{Wrote}
-use Rattle.log.specs.declared.Record.{Record}
-use Rattle.log.specs.declared.Read.{Read}
-use Rattle.log.specs.declared.Read.TheVariants.{Taken, End, Bad}
+use Rattle.call_log.specs.declared.Record.{Record}
+use Rattle.call_log.specs.declared.Read.{Read}
+use Rattle.call_log.specs.declared.Read.TheVariants.{Taken, End, Bad}
 use Rattle.transcript.specs.Lines.{end_line, bad_line, longest_answer, longest_line}
 use Rattle.transcript.specs.Transcript.{call_of, answer_text}
 use Rattle.player.specs.declared.Progress.{Progress}

@@ -1,19 +1,21 @@
 // The steps of a log: the call of a record is made on the pool, and its text is written into a lent buffer from a place on.
+#![tactic(auto)]
+
 ghost use Rattle.std.specs.Prelude.{◌≡◌, ◌+◌, ◌≤◌, length};
-ghost use Rattle.model.specs.Pool.{result, called};
+ghost use Rattle.model.specs.Pool.{result_of, called};
 ghost use Rattle.numbers.specs.Wrote.{Wrote};
 ghost use Rattle.transcript.specs.Lines.{longest_line};
 ghost use Rattle.transcript.specs.Transcript.{call_of};
 ghost use Rattle.player.specs.Steps.{last_text, longest_step, Stepped};
 
-use log::{Read, Record};
+use call_log::{Read, Record};
 use model::{Answer, BlockOffset, LOWEST_PRIORITY, Queue, TASKS};
 
 // The most bytes of a step's text: the line of the answer and a line for each task.
 pub const LONGEST_STEP: usize = 1505;
 
 // The place after the text of a record, and the queue that it leaves.
-#[derive(Drop)]
+#[derive(Clone, Copy)]
 pub struct Progress {
     pub end: usize,
     pub queue: Queue,
@@ -22,7 +24,7 @@ pub struct Progress {
 // Makes the call of a record, and writes the line of its answer and one for each woken task: the places before the first with task 0.
 pub fn step(pool: &mut [u8], queue: Queue, made: Record, out: &mut [u8], at: usize) -> Progress
     requires { at + longest_step ≤ length out.old }
-    ensures* { λ r. ⌜ Stepped pool.old queue made out.old at pool.new out.new r ⌝ }
+    ensures { Stepped pool.old queue made out.old at pool.new out.new result }
 {
     let answer = call(pool, queue, made);
     let offset = answer.offset;
@@ -47,7 +49,7 @@ pub fn step(pool: &mut [u8], queue: Queue, made: Record, out: &mut [u8], at: usi
 // Writes the last line: the log ends behind `count` records, or what stands at the place `place` of the log is bad.
 pub fn last(read: Read, place: usize, count: usize, out: &mut [u8], at: usize) -> usize
     requires { at + longest_line ≤ length out.old }
-    ensures* { λ r. ⌜ Wrote out.old at (last_text read place count) out.new r × (r ≤ at + longest_line) ⌝ }
+    ensures { Wrote out.old at (last_text read place count) out.new result × (result ≤ at + longest_line) }
 {
     match read {
         Read::End => transcript::end_line(out, at, count),
@@ -58,7 +60,7 @@ pub fn last(read: Read, place: usize, count: usize, out: &mut [u8], at: usize) -
 
 // The call that a record stands for; a get or poll without a priority has the lowest.
 pub fn call(pool: &mut [u8], queue: Queue, made: Record) -> Answer
-    ensures* { λ r. ⌜ result r pool.new ≡ called (call_of made) pool.old queue ⌝ }
+    ensures { result_of result pool.new ≡ called (call_of made) pool.old queue }
 {
     match made {
         Record::Get(task, size, limit) => {

@@ -21,7 +21,7 @@ use Rattle.model.specs.Waiting.{waits, remove, expired, remaining}
 use Rattle.model.specs.Rules.{Rules, ok_task, queued, rules}
 use Rattle.model.specs.Calls.{place_of, no_offset, no_place, release, cancel, tick, inquire, Reply, Refusal, plain, because, Served, wake, leaves, leave, blocks, serve, in_range, tests, act}
 use Rattle.model.specs.Places.{no_entry, pad, used, tidy, entries_of, queue_of, woken_of}
-use Rattle.model.specs.Pool.{Stored, stored, view, settled, defaults, is_sound, create, Result, result, answered, created, called, inquired, totals}
+use Rattle.model.specs.Pool.{Stored, stored, view, settled, defaults, is_sound, create, Result, result_of, answered, created, called, inquired, totals}
 use Rattle.model.proofs.Tests.{and_l, and_r, and_f_r}
 use Rattle.model.proofs.Blocks.{freed-total, freed-tiled, fits-greatest, starts}
 use Rattle.model.proofs.Bytes.{Bytes, erase-length, erase-render, erase-erase, tiled_roomy, freed_finer}
@@ -80,7 +80,7 @@ pub served_reply : (p : Stored) (x : List ℕ) (w first : List Woken) (k : ℕ) 
     → served_as p.queue.attributes x w k v ≡ answered (settled p (wake first v))
 served_reply p x w first k v ex ew ek =
     let s : sets w k v.woken ≡ woken_of (first ++ v.woken) = rw (ew, ek) (sets_behind (record { task = 0; code = e_ok; offset = no_offset }) most_tasks first v.woken) in
-    λ i. result (record { code = e_ok; offset = no_offset; reason = 0; place = no_place; woken = s i; queue = queue_of p.queue.attributes v.state.queue }) (render v.state.pool (ex i))
+    λ i. result_of (record { code = e_ok; offset = no_offset; reason = 0; place = no_place; woken = s i; queue = queue_of p.queue.attributes v.state.queue }) (render v.state.pool (ex i))
 
 -- ---- release
 
@@ -170,7 +170,7 @@ module _ (l : List ℕ) (q : Queue) (o : BlockOffset) (seen : Surveyed) (t : Tol
   abbrev at : Attributes
   at = q.attributes
 
-  pub release-refused : (x : Refusal) → misplaced_in o l ≡ some x → result (refusal x q) l ≡ called (release o) l q
+  pub release-refused : (x : Refusal) → misplaced_in o l ≡ some x → result_of (refusal x q) l ≡ called (release o) l q
   unfolding tests view rules
   release-refused x e = called-refused (release o) l q x t.state e
 
@@ -241,12 +241,12 @@ module _ (l : List ℕ) (q : Queue) (o : BlockOffset) (seen : Surveyed) (t : Tol
 
 module _ (l : List ℕ) (q : Queue) (seen : Surveyed) (t : Told target.Nothing l q seen) where
   module _ (task : ℕ) where
-    pub cancel-unknown : ok_task (rules_in l q) task ≡ false → result (refusal (plain e_id) q) l ≡ called (cancel task) l q
+    pub cancel-unknown : ok_task (rules_in l q) task ≡ false → result_of (refusal (plain e_id) q) l ≡ called (cancel task) l q
     unfolding tests view
     cancel-unknown h = called-refused (cancel task) l q (plain e_id) t.state (rw h)
 
     module _ (h : ok_task (rules_in l q) task ≡ true) where
-      pub cancel-idle : waits task (entries_of q) ≡ false → result (refusal (plain e_obj) q) l ≡ called (cancel task) l q
+      pub cancel-idle : waits task (entries_of q) ≡ false → result_of (refusal (plain e_obj) q) l ≡ called (cancel task) l q
       unfolding tests view
       cancel-idle w = called-refused (cancel task) l q (plain e_obj) t.state (rw (h, w))
 
@@ -299,12 +299,12 @@ module _ (l : List ℕ) (q : Queue) (seen : Surveyed) (t : Told target.Nothing l
 
     -- where no wait ends, the head is that of before, and nobody is served
     pub tick_none : ticked.count ≡ 0 → Bytes l
-        → result (record { code = e_ok; offset = no_offset; reason = 0; place = no_place; woken = ticked.woken; queue = record { attributes = q.attributes; entries = ticked.entries } }) l ≡ called tick l q
+        → result_of (record { code = e_ok; offset = no_offset; reason = 0; place = no_place; woken = ticked.woken; queue = record { attributes = q.attributes; entries = ticked.entries } }) l ≡ called tick l q
     tick_none z b =
         let K = rules_in l q in
         let stuck = serve_stuck K (blocks K) (blocks_of l) stay (stuck_remaining K (blocks K) (blocks_of l) (entries_of q) (sym count-is ∙ z) t.parts.head) in
         let u : used ticked.entries ≡ stay = ap used places_are ∙ placed-used q.attributes (length l) stay stays in
-        tick_done _ (rw (u, stuck) (λ i. result
+        tick_done _ (rw (u, stuck) (λ i. result_of
         (record { code = e_ok; offset = no_offset; reason = 0; place = no_place; woken = ticked.woken; queue = record { attributes = q.attributes; entries = places_are i } })
         (sym (kept_bytes l q b t.parts) i)))
 
@@ -336,14 +336,14 @@ overlay-first (x ∷ xs) k [] = refl
 overlay-first (x ∷ xs) k (y ∷ l) = ap (λ (r : List ℕ). x ∷ r) (overlay-first xs k l)
 
 module _ (a : Attributes) (l : List ℕ) where
-  pub create-refused : (q : Queue) → q ≡ queue_of defaults [] → (rules a (length l)).valid ≡ false → result (refusal (plain e_par) q) l ≡ created a l
+  pub create-refused : (q : Queue) → q ≡ queue_of defaults [] → (rules a (length l)).valid ≡ false → result_of (refusal (plain e_par) q) l ≡ created a l
   unfolding create
   create-refused q e h = rw (e, h)
 
-  pub create_done : (q : Queue) → q ≡ queue_of a [] → (rules a (length l)).valid ≡ true → (l' : List ℕ) → l' ≡ put 0 (header (block (length l) 0)) l → result (refusal (plain e_ok) q) l' ≡ created a l
+  pub create_done : (q : Queue) → q ≡ queue_of a [] → (rules a (length l)).valid ≡ true → (l' : List ℕ) → l' ≡ put 0 (header (block (length l) 0)) l → result_of (refusal (plain e_ok) q) l' ≡ created a l
   unfolding create put render mask
   create_done q e h l' el =
       let b = block (length l) 0 in
       let bytes : l' ≡ overlay ((written (header b) ++ replicate (length l - 8) none) ++ []) l =
       el ∙ overlay-first (header b) (length l - 8) l ∙ ap (λ (m : List (Option ℕ)). overlay m l) (sym (append-nil _)) in
-      rw (e, h) (ap (λ (x : List ℕ). result (refusal (plain e_ok) (queue_of a [])) x) bytes)
+      rw (e, h) (ap (λ (x : List ℕ). result_of (refusal (plain e_ok) (queue_of a [])) x) bytes)

@@ -24,7 +24,7 @@ use Rattle.model.specs.Calls.{no_offset, no_place, Request, Call, get, release, 
 use Rattle.model.specs.Refusals.{Refused, get_id}
 use Rattle.model.specs.Runs.{after, run, refuses, wakings, served_before, wake_code, end_code, Spared, ticks, releases, NoneBetter, gets, refusals, winners, Others, OfPriority}
 use Rattle.model.specs.Places.{tidy, entries_of, queue_of, woken_of}
-use Rattle.model.specs.Pool.{Stored, stored, Typed, Fifo, view, waiters, settled, defaults, sound_by, is_sound, perform, create, Result, result, answered, created, called, inquired, totals}
+use Rattle.model.specs.Pool.{Stored, stored, Typed, Fifo, view, waiters, settled, defaults, sound_by, is_sound, perform, create, Result, result_of, answered, created, called, inquired, totals}
 use Rattle.model.specs.Demands.{NoTrace, undo, Undone, Timeout, StaysBehind, EndsWithin, OneHolder}
 use Rattle.model.proofs.Tests.{by, and_l}
 use Rattle.model.proofs.Waiting.{waits-least, head-place}
@@ -40,11 +40,11 @@ use Rattle.state.proofs.Inspecting.{State as Parts, open_state, kept_unsound, ca
 
 module _ (a : Attributes) (l : List ℕ) where
   -- a refused create hands out an empty queue, every number kept with it zero
-  pub create-refused : ok_long (length l) && ok_attributes a (length l) ≡ false → created a l ≡ result (refusal (plain e_par) (queue_of defaults [])) l
+  pub create-refused : ok_long (length l) && ok_attributes a (length l) ≡ false → created a l ≡ result_of (refusal (plain e_par) (queue_of defaults [])) l
   unfolding create rules
   create-refused h = rw h
 
-  pub create_done : ok_long (length l) && ok_attributes a (length l) ≡ true → created a l ≡ result (refusal (plain e_ok) (queue_of a [])) (render (block (length l) 0 ∷ []) l)
+  pub create_done : ok_long (length l) && ok_attributes a (length l) ≡ true → created a l ≡ result_of (refusal (plain e_ok) (queue_of a [])) (render (block (length l) 0 ∷ []) l)
   unfolding create rules
   create_done h = rw h
 
@@ -57,7 +57,7 @@ module _ (c : Call) (l : List ℕ) (q : Queue) where
   K = rules_in l q
 
   -- a code other than 0 and 1 comes with offset 0 and nobody woken, and leaves every byte and the queue
-  pub call-refused : (k : Refusal) → refused_in (called c l q).answer ≡ some k → called c l q ≡ result (refusal k q) l
+  pub call-refused : (k : Refusal) → refused_in (called c l q).answer ≡ some k → called c l q ≡ result_of (refusal k q) l
   call-refused k e = ap answered (pool_refusal_keeps c (stored l q) k e)
 
   -- and is answered exactly as the table of refusals says
@@ -97,7 +97,7 @@ module _ (c : Call) (l : List ℕ) (q : Queue) where
         go : (v : Option Refusal) → tests K (blocks K) c (view (stored l q)) ≡ v → called c l q ≡ answered (settled (stored l q) (step K (blocks K) c (view (stored l q))))
         go none e = sym (called_done c l q h e) ∙ rw (s, e)
         go (some k) e =
-            sym (called-refused c l q k h e) ∙ rw (s, e) (λ i. result (refusal k (sym (kept_queue l q t.places o) i)) (sym (kept_bytes l q t.byte o) i))
+            sym (called-refused c l q k h e) ∙ rw (s, e) (λ i. result_of (refusal k (sym (kept_queue l q t.places o) i)) (sym (kept_bytes l q t.byte o) i))
 
 -- ---- the reasons of a refused release
 
@@ -145,7 +145,7 @@ module _ (l : List ℕ) (q : Queue) (h : is_sound rules (stored l q) ≡ true) (
 
     -- bytes and queue are those that the gets alone leave; the task is woken with -49, then those whom the gets alone grant
     pub cancel_leaves_no_trace : called (cancel f.task) waited.bytes waited.queue
-        ≡ result (record { code = e_ok; offset = no_offset; reason = 0; place = no_place; woken = woken_of (leaves e_rlwai f.task ∷ winners (run (perform rules) (stored l q) (gets rs))); queue = alone.queue }) alone.bytes
+        ≡ result_of (record { code = e_ok; offset = no_offset; reason = 0; place = no_place; woken = woken_of (leaves e_rlwai f.task ∷ winners (run (perform rules) (stored l q) (gets rs))); queue = alone.queue }) alone.bytes
     cancel_leaves_no_trace = ap answered no_trace.cancelled
 
     -- the same gets are refused, by the same codes

@@ -1,7 +1,9 @@
 // The calls of the pool: each tests the state and its numbers, and only then changes anything.
+#![tactic(auto)]
+
 ghost use Rattle.std.specs.Prelude.{◌≡◌};
 ghost use Rattle.model.specs.Calls as calls;
-ghost use Rattle.model.specs.Pool.{result, created, called, inquired};
+ghost use Rattle.model.specs.Pool.{result_of, created, called, inquired};
 ghost use Rattle.request.specs.Request.{request};
 
 use layout::{Found, Target, change, header, walk};
@@ -16,7 +18,7 @@ mod reason;
 
 // One free run of all bytes, and an empty queue that keeps the attributes.
 pub fn create(pool: &mut [u8], attributes: Attributes) -> Answer
-    ensures* { λ r. ⌜ result r pool.new ≡ created attributes pool.old ⌝ }
+    ensures { result_of result pool.new ≡ created attributes pool.old }
 {
     let n = pool.len();
     if !state::is_valid(attributes, n) {
@@ -29,7 +31,7 @@ pub fn create(pool: &mut [u8], attributes: Attributes) -> Answer
 // A block for a task: granted where a run fits and nobody waits, by priority nobody of better or equal priority; else the task waits, through `limit`
 // ticks, forever (-1) or not at all (0). Priorities are 1, the best, to LOWEST_PRIORITY.
 pub fn get(pool: &mut [u8], queue: Queue, task: u32, size: u32, limit: i32, priority: u32) -> Answer
-    ensures* { λ r. ⌜ result r pool.new ≡ called (calls.get (request task size limit priority)) pool.old queue ⌝ }
+    ensures { result_of result pool.new ≡ called (calls.get (request task size limit priority)) pool.old queue }
 {
     let need = sizes::need(queue.attributes, size);
     let seen = state::inspect(pool, queue, Target::Run(need));
@@ -55,14 +57,14 @@ pub fn get(pool: &mut [u8], queue: Queue, task: u32, size: u32, limit: i32, prio
 
 // A block for a task, or a refusal at once.
 pub fn poll(pool: &mut [u8], queue: Queue, task: u32, size: u32, priority: u32) -> Answer
-    ensures* { λ r. ⌜ result r pool.new ≡ called (calls.poll task size priority) pool.old queue ⌝ }
+    ensures { result_of result pool.new ≡ called (calls.poll task size priority) pool.old queue }
 {
     get(pool, queue, task, size, 0, priority)
 }
 
 // The block at an offset becomes free, and the queue is served. A refusal says why the offset is not that of a live block.
 pub fn release(pool: &mut [u8], queue: Queue, offset: BlockOffset) -> Answer
-    ensures* { λ r. ⌜ result r pool.new ≡ called (calls.release offset) pool.old queue ⌝ }
+    ensures { result_of result pool.new ≡ called (calls.release offset) pool.old queue }
 {
     let entries = queue.entries;
     let seen = state::inspect(pool, queue, Target::Holder(offset));
@@ -84,7 +86,7 @@ pub fn release(pool: &mut [u8], queue: Queue, offset: BlockOffset) -> Answer
 
 // A waiting task leaves the queue, and the queue is served.
 pub fn cancel(pool: &mut [u8], queue: Queue, task: u32) -> Answer
-    ensures* { λ r. ⌜ result r pool.new ≡ called (calls.cancel task) pool.old queue ⌝ }
+    ensures { result_of result pool.new ≡ called (calls.cancel task) pool.old queue }
 {
     let entries = queue.entries;
     let seen = state::inspect(pool, queue, Target::Nothing);
@@ -116,7 +118,7 @@ pub fn cancel(pool: &mut [u8], queue: Queue, task: u32) -> Answer
 
 // Every limited wait loses a tick, those that reach none leave, and the queue is served; where nobody leaves, its head fits no more than before.
 pub fn tick(pool: &mut [u8], queue: Queue) -> Answer
-    ensures* { λ r. ⌜ result r pool.new ≡ called calls.tick pool.old queue ⌝ }
+    ensures { result_of result pool.new ≡ called calls.tick pool.old queue }
 {
     let entries = queue.entries;
     let seen = state::inspect(pool, queue, Target::Nothing);
@@ -152,7 +154,7 @@ pub fn tick(pool: &mut [u8], queue: Queue) -> Answer
 
 // The sum of the free runs and the greatest, each less its header, and the head's task.
 pub fn inquire(pool: &[u8], queue: Queue) -> Totals
-    ensures* { λ r. ⌜ r ≡ inquired pool.now queue ⌝ }
+    ensures { result ≡ inquired pool.now queue }
 {
     let entries = queue.entries;
     let seen = state::inspect(pool, queue, Target::Nothing);

@@ -10,7 +10,7 @@ use layout::{Spot, header};
 use model::{ALREADY_FREE, BlockOffset, HeaderPlace, INSIDE_BLOCK, MISALIGNED, OUT_OF_RANGE};
 
 // Why a release is refused, and the place of a header; 0 and 0 if it is not.
-#[derive(Drop)]
+#[derive(Clone, Copy)]
 pub struct Reason(pub u32, pub HeaderPlace);
 
 // Why an offset is not that of a live block, given the block that holds it: the first test that fails.

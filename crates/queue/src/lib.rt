@@ -1,4 +1,6 @@
 // The waiting queue of a pool, by value: its entries in order, zeros in the places past the last.
+#![tactic(auto)]
+
 ghost use Rattle.std.specs.Prelude.{◌≡◌, true, [], ◌++◌, ℕ, ◌+◌, ◌-◌, ◌≤◌, ◌<◌, length, take, drop};
 ghost use Rattle.model.specs.declared.Attributes.{Attributes};
 ghost use Rattle.model.specs.Limits.{most_tasks, lowest_priority};
@@ -139,7 +141,7 @@ pub fn is_sound(attributes: Attributes, entries: [Entry; TASKS], n: usize) -> bo
 // ---- who waits
 
 // The place of a task's entry.
-#[derive(Drop)]
+#[derive(Clone, Copy)]
 pub enum Slot {
     At(usize),
     Nothing,
@@ -241,7 +243,7 @@ fn age(e: Entry) -> Entry
 }
 
 // The queue after a tick, and the tasks whose wait the tick ends, with their number.
-#[derive(Drop)]
+#[derive(Clone, Copy)]
 pub struct Ticked {
     pub entries: [Entry; TASKS],
     pub woken: [Woken; TASKS],
@@ -283,7 +285,7 @@ pub fn tick(entries: [Entry; TASKS]) -> Ticked
 }
 
 // What a time limit asks for; a wait has its time left.
-#[derive(Drop)]
+#[derive(Clone, Copy)]
 pub enum Limit {
     Refused,
     Poll,

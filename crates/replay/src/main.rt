@@ -1,4 +1,6 @@
 // Replays a log of calls from standard input on a pool of zeros, and writes its text to standard output.
+#![tactic(auto)]
+
 use model::DEFAULTS;
 
 fn main() {

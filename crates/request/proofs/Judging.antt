@@ -24,7 +24,7 @@ use Rattle.model.specs.Waiting.{waits}
 use Rattle.model.specs.Rules.{Rules, ok_task, most_asked, ok_size, ok_priority, need_of, rank_by, rules}
 use Rattle.model.specs.Calls.{offset_of, no_place, Request, get, plain, deny, ok_limit, is_poll, left_of, entry_of, State, state, blocks, goes, tests, act}
 use Rattle.model.specs.Places.{entries_of, tidy, woken_of}
-use Rattle.model.specs.Pool.{Stored, stored, view, perform_by, rules_of, is_sound, result, answered, called}
+use Rattle.model.specs.Pool.{Stored, stored, view, perform_by, rules_of, is_sound, result_of, answered, called}
 use Rattle.model.proofs.Tests.{by, and_l, and_r, and_f_r, not_f}
 use Rattle.model.proofs.Bytes.{Bytes}
 use Rattle.model.proofs.Soundness.{no_some, past}
@@ -138,7 +138,7 @@ module _ (l : List ℕ) (q : Queue) (t n : ℕ) (limit : ℤ) (k : ℕ) where
   abbrev r : Request
   r = request t n limit k
 
-  pub get_refused : (c : ℤ) → is_sound rules (stored l q) ≡ true → judged (asked K r (entries_of q)) limit ≡ Refuse c → result (refusal (plain (to_z w32 (of_z w32 c))) q) l ≡ called (get r) l q
+  pub get_refused : (c : ℤ) → is_sound rules (stored l q) ≡ true → judged (asked K r (entries_of q)) limit ≡ Refuse c → result_of (refusal (plain (to_z w32 (of_z w32 c))) q) l ≡ called (get r) l q
   unfolding view
   get_refused c h e =
       let s = judged-refuse (asked K r (entries_of q)) limit c e in
@@ -211,13 +211,13 @@ module _ (l : List ℕ) (q : Queue) (e : Entry) (f : Found) (fair : Fair l q e f
       (λ z. let g : f ≡ found.Nothing = rw z at n in rw (z, no_run need (blocks_of l) (sym fair.run ∙ g)))
       (λ z. rw z)
 
-  pub admit_held : (a : Answer) (p : Bool) → length q.entries ≡ most_tasks → Bytes l → run_for order q.entries e f ≡ found.Nothing → a ≡ held q e p → result a l ≡ answered (admitted (stored l q) e p)
+  pub admit_held : (a : Answer) (p : Bool) → length q.entries ≡ most_tasks → Bytes l → run_for order q.entries e f ≡ found.Nothing → a ≡ held q e p → result_of a l ≡ answered (admitted (stored l q) e p)
   unfolding view rules
   admit_held a p n w o ea =
       let g = none_goes o in
       by p
       (λ h. rw (ea, h, g))
-      (λ h. rw (ea, h, g) (ap (λ (y : List ℕ). result (held q e false) y) (sym (kept_bytes l q w parts))))
+      (λ h. rw (ea, h, g) (ap (λ (y : List ℕ). result_of (held q e false) y) (sym (kept_bytes l q w parts))))
 
   module _ (s : Spot) (o : run_for order q.entries e f ≡ found.At s) where
     ran : (before_head ≡ true) × (f ≡ found.At s)
@@ -231,9 +231,9 @@ module _ (l : List ℕ) (q : Queue) (e : Entry) (f : Found) (fair : Fair l q e f
     admit_grantable = record { pool = parts.pool; least = (rules_laws q.attributes (length l)).need_least e fair.size; run = fit.0; place_is = fit.1 }
 
     pub admit_granted : (a : BlockOffset) (w : List Woken) (l' : List ℕ) (p : Bool) → length q.entries ≡ most_tasks → a ≡ offset_of s.place → w ≡ woken_of []
-        → l' ≡ changed (granted need e.task) l → result (record { code = e_ok; offset = a; reason = 0; place = no_place; woken = w; queue = q }) l' ≡ answered (admitted (stored l q) e p)
+        → l' ≡ changed (granted need e.task) l → result_of (record { code = e_ok; offset = a; reason = 0; place = no_place; woken = w; queue = q }) l' ≡ answered (admitted (stored l q) e p)
     unfolding view rules
     admit_granted a w l' p n ea ew el =
         let g : goes S (blocks S) e (view (stored l q)) ≡ true = goes-is ∙ rw (ran.0, fit.0) in
         let place : a ≡ offset_of (record { 0 = first_fit need (blocks_of l) }) = ea ∙ ap {B = BlockOffset} (λ (i : ℕ). record { 0 = i + 8 }) fit.1 in
-        rw (g, and_f_r p false refl) (λ i. result (record { code = e_ok; offset = place i; reason = 0; place = no_place; woken = ew i; queue = sym (kept_queue l q n parts) i }) (el i))
+        rw (g, and_f_r p false refl) (λ i. result_of (record { code = e_ok; offset = place i; reason = 0; place = no_place; woken = ew i; queue = sym (kept_queue l q n parts) i }) (el i))

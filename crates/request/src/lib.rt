@@ -1,9 +1,11 @@
 // Requests for a block: the tests, and what follows where none refuses.
+#![tactic(auto)]
+
 ghost use Rattle.std.specs.Prelude.{◌≡◌, true, ◌≤◌};
 ghost use Rattle.model.specs.Limits.{lowest_priority};
 ghost use Rattle.model.specs.Rules.{rules};
 ghost use Rattle.model.specs.Places.{entries_of, tidy};
-ghost use Rattle.model.specs.Pool.{result, answered, stored};
+ghost use Rattle.model.specs.Pool.{result_of, answered, stored};
 ghost use Rattle.request.specs.Request.{request, asked, judged, placed, run_for, held, admitted, Fair};
 
 use layout::{Found, change, header};
@@ -13,7 +15,7 @@ use model::{
 use queue::{Limit, Slot};
 
 // What a request meets: a code, or whether it polls and how long it may wait.
-#[derive(Drop)]
+#[derive(Clone, Copy)]
 pub enum Verdict {
     Refuse(i32),
     Go(bool, u32),
@@ -21,7 +23,7 @@ pub enum Verdict {
 
 // A task that waits may not ask.
 fn place(slot: Slot, poll: bool, left: u32) -> Verdict
-    ensures* { λ r. ⌜ r ≡ placed slot poll left ⌝ }
+    ensures { result ≡ placed slot poll left }
 {
     match slot {
         Slot::At(_) => Verdict::Refuse(E_CTX),
@@ -31,7 +33,7 @@ fn place(slot: Slot, poll: bool, left: u32) -> Verdict
 
 // The tests of a request in a sound state of `n` bytes, in order.
 pub fn judge(queue: Queue, n: usize, task: u32, size: u32, limit: i32, priority: u32) -> Verdict
-    ensures* { λ r. ⌜ r ≡ judged (asked (rules queue.attributes n) (request task size limit priority) (entries_of queue)) limit ⌝ }
+    ensures { result ≡ judged (asked (rules queue.attributes n) (request task size limit priority) (entries_of queue)) limit }
 {
     if !queue::is_task(task) {
         return Verdict::Refuse(E_ID);
@@ -52,7 +54,7 @@ pub fn judge(queue: Queue, n: usize, task: u32, size: u32, limit: i32, priority:
 
 // The run that a request may have: none while anybody of lower or equal rank waits, which is decided by the head.
 fn run_for(order: u16, entries: [Entry; TASKS], e: Entry, found: Found) -> Found
-    ensures* { λ r. ⌜ r ≡ run_for order entries e found ⌝ }
+    ensures { result ≡ run_for order entries e found }
 {
     let head = entries[0];
     if (head.task == 0) | (queue::rank(order, e) < queue::rank(order, head)) {
@@ -65,7 +67,7 @@ fn run_for(order: u16, entries: [Entry; TASKS], e: Entry, found: Found) -> Found
 // A request that cannot be granted at once: a poll is refused, any other joins the queue.
 fn hold(queue: Queue, e: Entry, poll: bool) -> Answer
     requires { (tidy queue.entries ≡ true) × (e.priority ≤ lowest_priority) }
-    ensures* { λ r. ⌜ r ≡ held queue e poll ⌝ }
+    ensures { result ≡ held queue e poll }
 {
     if poll {
         return state::refuse(E_TMOUT, queue);
@@ -88,7 +90,7 @@ fn hold(queue: Queue, e: Entry, poll: bool) -> Answer
 // A request that no test refused.
 pub fn admit(pool: &mut [u8], queue: Queue, e: Entry, poll: bool, found: Found) -> Answer
     requires { Fair pool.old queue e found }
-    ensures* { λ r. ⌜ result r pool.new ≡ answered (admitted (stored pool.old queue) e poll) ⌝ }
+    ensures { result_of result pool.new ≡ answered (admitted (stored pool.old queue) e poll) }
 {
     let attributes = queue.attributes;
     let entries = queue.entries;

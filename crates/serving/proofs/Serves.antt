@@ -17,7 +17,7 @@ use Rattle.model.specs.Bytes.{blocks_of, render, erase}
 use Rattle.model.specs.Rules.{queued, need_of, rules}
 use Rattle.model.specs.Calls.{offset_of, Served, state, blocks, serve, no_offset, no_place}
 use Rattle.model.specs.Places.{used, queue_of}
-use Rattle.model.specs.Pool.{result}
+use Rattle.model.specs.Pool.{result_of}
 use Rattle.model.proofs.Waiting.{Asked, open_queued, entry-asked}
 use Rattle.model.proofs.Blocks.{granted-fits, granted-total, granted-tiled}
 use Rattle.model.proofs.Bytes.{Bytes, finer_refl, granted_finer, render-length, erase-length, render-erase, erase-render, blocks-render, render-blocks}
@@ -94,8 +94,8 @@ module _ {a : Attributes} {x : List ℕ} {n most : ℕ} {w : List Woken} {k : �
   abbrev pub Still : Type 0
   Still = serve (rules a n) (blocks (rules a n)) (blocks_of l) es ≡ record { woken = []; state = state (blocks_of l) es }
 
-  pub loop_answer : Still → (r : Answer) → r ≡ answer_as a w' es → result r l ≡ served_as a x w k v
-  loop_answer e r g = (λ i. result (g i) (s.shows i)) ∙ sym (s.same ∙ ap (served_as a x w' k') e)
+  pub loop_answer : Still → (r : Answer) → r ≡ answer_as a w' es → result_of r l ≡ served_as a x w k v
+  loop_answer e r g = (λ i. result_of (g i) (s.shows i)) ∙ sym (s.same ∙ ap (served_as a x w' k') e)
 
   pub loop_out : es ≡ [] → Still
   unfolding serve

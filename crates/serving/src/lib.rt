@@ -1,10 +1,12 @@
 // Serving the queue from its head.
+#![tactic(auto)]
+
 ghost use Rattle.std.specs.Prelude.{◌≡◌, length};
 ghost use Rattle.model.specs.Places.{used};
 ghost use Rattle.model.specs.Bytes.{blocks_of, erase};
 ghost use Rattle.model.specs.Rules.{rules};
 ghost use Rattle.model.specs.Calls as calls;
-ghost use Rattle.model.specs.Pool.{result};
+ghost use Rattle.model.specs.Pool.{result_of};
 ghost use Rattle.serving.specs.Serving.{served_as, Ready};
 
 use layout::{Found, change, header, walk};
@@ -20,7 +22,7 @@ pub fn serve(
     most: usize,
 ) -> Answer
     requires { Ready attributes pool.old entries before most }
-    ensures* { λ r. ⌜ result r pool.new ≡ served_as attributes (erase (blocks_of pool.old) pool.old) woken before (calls.serve (rules attributes (length pool.old)) (calls.blocks (rules attributes (length pool.old))) (blocks_of pool.old) (used entries)) ⌝ }
+    ensures { result_of result pool.new ≡ served_as attributes (erase (blocks_of pool.old) pool.old) woken before (calls.serve (rules attributes (length pool.old)) (calls.blocks (rules attributes (length pool.old))) (blocks_of pool.old) (used entries)) }
 {
     let mut noted = woken;
     let mut i: usize = 0;

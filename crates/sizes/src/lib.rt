@@ -1,4 +1,6 @@
 // The sizes that may be asked of a pool, and the size of the block for each.
+#![tactic(auto)]
+
 ghost use Rattle.std.specs.Prelude.{◌≡◌, ◌+◌, ◌≤◌};
 ghost use Rattle.model.specs.Sizes as sizes;
 ghost use Rattle.model.specs.Sizes.{last_place, smallest, kind_for, ok_greatest};

@@ -12,12 +12,12 @@ use Rattle.model.specs.declared.Answer.{Answer}
 use Rattle.model.specs.declared.Attributes.{Attributes}
 use Rattle.model.specs.Limits.{e_par}
 use Rattle.model.specs.Rules.{rules}
-use Rattle.model.specs.Pool.{Result, Stored, stored, create, result, created}
+use Rattle.model.specs.Pool.{Result, Stored, stored, create, result_of, created}
 use Rattle.model.proofs.Tests.{by}
 use Rattle.numbers.specs.Wrote.{Wrote}
 use Rattle.numbers.proofs.Wrote.{wrote-parts}
-use Rattle.log.specs.declared.Start.TheVariants as start
-use Rattle.log.specs.Log.{start_of}
+use Rattle.call_log.specs.declared.Start.TheVariants as start
+use Rattle.call_log.specs.Log.{start_of}
 use Rattle.transcript.specs.Lines.{pool_line, longest_line}
 use Rattle.transcript.specs.Transcript.{longest_log, records_text, fresh_pool, transcript_of}
 use Rattle.transcript.proofs.Theorems.{fresh_pool-code, transcript_pool}
@@ -54,12 +54,12 @@ keeps : (a : Attributes) (n : ℕ) → (rules a n).valid ≡ true → (fresh_poo
 unfolding create
 keeps a n v = rw (length-replicate, v)
 
-pub begun : {log text text' : List ℕ} {place next : ℕ} (a : Attributes) (l l' : List ℕ) (r : Answer) → Lent log text place a l → result r l' ≡ created a l → of_z w32 r.code ≡ 0
+pub begun : {log text text' : List ℕ} {place next : ℕ} (a : Attributes) (l l' : List ℕ) (r : Answer) → Lent log text place a l → result_of r l' ≡ created a l → of_z w32 r.code ≡ 0
     → length l' ≡ length l → Wrote text 0 (pool_line (length l')) text' next → length (pool_line (length l')) ≤ longest_line
     → transcript_of r.queue.attributes log ≡ take next text' ++ records_text 0 place 0 (stored l' r.queue) (drop place log)
 begun {log} {text} {text'} {place} {next} a l l' r h e k same w m =
     let n = length l in
-    let made : result r l' ≡ created a (replicate n 0) = e ∙ ap (created a) h.zeros in
+    let made : result_of r l' ≡ created a (replicate n 0) = e ∙ ap (created a) h.zeros in
     let code : of_z w32 (fresh_pool a n).said.code ≡ 0 = sym (ap {B = ℕ} (λ (x : Result). of_z w32 x.answer.code) made) ∙ k in
     let state : stored l' r.queue ≡ (fresh_pool a n).state = ap {B = Stored} (λ (x : Result). stored x.bytes x.answer.queue) made in
     let v = valid a n code in

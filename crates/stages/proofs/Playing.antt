@@ -13,12 +13,12 @@ use Rattle.model.specs.Pool.{stored}
 use Rattle.model.proofs.Tests.{by, clash}
 use Rattle.numbers.specs.Wrote.{Wrote}
 use Rattle.numbers.proofs.Wrote.{wrote-append}
-use Rattle.log.specs.declared.Record.{Record}
-use Rattle.log.specs.declared.Read.{Read}
-use Rattle.log.specs.declared.Read.TheVariants.{Taken, End, Bad}
-use Rattle.log.specs.Record.{record_of}
-use Rattle.log.proofs.Reading.{NoRecord, no_record}
-use Rattle.log.proofs.Theorems.{record-length}
+use Rattle.call_log.specs.declared.Record.{Record}
+use Rattle.call_log.specs.declared.Read.{Read}
+use Rattle.call_log.specs.declared.Read.TheVariants.{Taken, End, Bad}
+use Rattle.call_log.specs.Record.{record_of}
+use Rattle.call_log.proofs.Reading.{NoRecord, no_record}
+use Rattle.call_log.proofs.Theorems.{record-length}
 use Rattle.transcript.specs.Lines.{longest_line}
 use Rattle.transcript.specs.Transcript.{answer_text, records_text}
 use Rattle.transcript.proofs.Theorems.{records_end, records_bad, records_taken}

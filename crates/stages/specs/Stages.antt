@@ -3,8 +3,8 @@ use Rattle.std.specs.Prelude.{ℕ, ◌<◌, ◌≤◌, ◌≡◌, false, cond, L
 use Rattle.model.specs.declared.Attributes.{Attributes}
 use Rattle.model.specs.Pool.{stored}
 use Rattle.numbers.specs.Wrote.{Wrote}
-use Rattle.log.specs.declared.Start.TheVariants as start
-use Rattle.log.specs.Log.{start_of}
+use Rattle.call_log.specs.declared.Start.TheVariants as start
+use Rattle.call_log.specs.Log.{start_of}
 use Rattle.transcript.specs.Lines.{longest_line}
 use Rattle.transcript.specs.Transcript.{longest_log, records_text, transcript_of}
 use Rattle.stages.specs.declared.Stage.{Stage}

@@ -1,9 +1,11 @@
 // The text of a whole log, gathered in stages and written to standard output.
+#![tactic(auto)]
+
 ghost use Rattle.std.specs.Prelude.{◌≤◌, ◌≡◌, length, take};
 ghost use Rattle.transcript.specs.Transcript.{longest_log};
 ghost use Rattle.stages.specs.Stages.{text_space, Ready, Begun, Lent, Played};
 
-use log::{LONGEST_LOG, Read, Start};
+use call_log::{LONGEST_LOG, Read, Start};
 use model::{Attributes, LONGEST_POOL, Queue};
 use player::LONGEST_STEP;
 
@@ -11,7 +13,7 @@ use player::LONGEST_STEP;
 const TEXT_SPACE: usize = 65536;
 
 // How far a log is replayed: its place, the records taken, the end of the text gathered, whether that is the last of it, and the queue.
-#[derive(Drop)]
+#[derive(Clone, Copy)]
 struct Stage {
     at: usize,
     count: usize,
@@ -37,7 +39,7 @@ fn play(log: &[u8], from: Stage, pool: &mut [u8], text: &mut [u8]) -> Stage
     let mut count = from.count;
     let mut end = from.end;
     while end <= TEXT_SPACE - LONGEST_STEP {
-        let read = log::read_record(&log[at..]);
+        let read = call_log::read_record(&log[at..]);
         let Read::Taken(made, size) = read else {
             let last = player::last(read, at, count, text, end);
             return Stage {
@@ -120,7 +122,7 @@ fn lend(
 fn begin(log: &[u8], attributes: Attributes, text: &mut [u8])
     requires { (length log.now ≤ longest_log) × (length text.old ≡ text_space) }
 {
-    let begun = log::read_start(log);
+    let begun = call_log::read_start(log);
     let Start::Taken(n, order, start) = begun else {
         let end = transcript::bad_line(text, 0, 0);
         flush(text, end);

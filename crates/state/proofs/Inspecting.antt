@@ -17,7 +17,7 @@ use Rattle.model.specs.Bytes.{blocks_of, render, erase}
 use Rattle.model.specs.Rules.{Rules, ok_long, ok_attributes, need_of, queued, rules}
 use Rattle.model.specs.Calls.{Call, Refusal, plain, blocks, head_stuck, sound, tests, act}
 use Rattle.model.specs.Places.{no_entry, tidy, entries_of, queue_of}
-use Rattle.model.specs.Pool.{stored, view, settled, sound_by, is_sound, result, answered, called}
+use Rattle.model.specs.Pool.{stored, view, settled, sound_by, is_sound, result_of, answered, called}
 use Rattle.model.proofs.Tests.{by, clash, and_l, and_r, and_f_r, and-true}
 use Rattle.model.proofs.Waiting.{open_queued, entry-asked}
 use Rattle.model.proofs.Blocks.{greatest-total, fits-greatest}
@@ -188,10 +188,10 @@ module _ (c : Call) (l : List ℕ) (q : Queue) where
   abbrev K : Rules
   K = rules_in l q
 
-  pub called_unsound : is_sound rules (stored l q) ≡ false → result (refusal (plain e_sys) q) l ≡ called c l q
+  pub called_unsound : is_sound rules (stored l q) ≡ false → result_of (refusal (plain e_sys) q) l ≡ called c l q
   called_unsound h = sym (ap answered (by_unsound K c (stored l q) h))
 
-  pub called-refused : (k : Refusal) → is_sound rules (stored l q) ≡ true → tests K (blocks K) c (view (stored l q)) ≡ some k → result (refusal k q) l ≡ called c l q
+  pub called-refused : (k : Refusal) → is_sound rules (stored l q) ≡ true → tests K (blocks K) c (view (stored l q)) ≡ some k → result_of (refusal k q) l ≡ called c l q
   called-refused k h e = sym (ap answered (by_refused K c (stored l q) k h e))
 
   pub called_done : is_sound rules (stored l q) ≡ true → tests K (blocks K) c (view (stored l q)) ≡ none → answered (settled (stored l q) (act K (blocks K) c (view (stored l q)))) ≡ called c l q

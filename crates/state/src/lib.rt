@@ -1,4 +1,6 @@
 // The state of a pool: its test, and a refusal that leaves it as it is.
+#![tactic(auto)]
+
 ghost use Rattle.std.specs.Prelude.{◌≡◌, []};
 ghost use Rattle.model.specs.Rules.{ok_attributes, rules};
 ghost use Rattle.model.specs.Calls.{plain};

@@ -1,4 +1,6 @@
 // Text in lent buffers: texts and decimal numbers are written, lines, words and numbers are found.
+#![tactic(auto)]
+
 ghost use Rattle.std.specs.Prelude.{◌+◌, ◌≤◌, length};
 ghost use Rattle.numbers.specs.Wrote.{Wrote};
 ghost use Rattle.text.specs.Decimal.{decimal, around};

@@ -4,7 +4,7 @@ ghost use Rattle.text.specs.Words.{is_blank, belongs, span, same, numeral_of};
 ghost use Rattle.text.specs.Steps.{NextWord};
 
 // Classes of bytes.
-#[derive(Drop)]
+#[derive(Clone, Copy)]
 pub enum Class {
     // any byte but a newline
     Line,
@@ -19,7 +19,7 @@ pub enum Class {
 }
 
 // Where a word stands.
-#[derive(Drop)]
+#[derive(Clone, Copy)]
 pub enum Place {
     // its start, and the place after it
     At(usize, usize),
@@ -27,7 +27,7 @@ pub enum Place {
 }
 
 // What a word says as a number.
-#[derive(Drop)]
+#[derive(Clone, Copy)]
 pub enum Numeral {
     Value(u32),
     TooLarge,

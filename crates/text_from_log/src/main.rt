@@ -1,4 +1,6 @@
 // Reads a log from standard input, and writes its text to standard output, or why it has none.
+#![tactic(auto)]
+
 use log_printer::response;
 use log_printer::response::LONGEST_PRINTED;
 use log_text::LONGEST_LOG;

@@ -11,9 +11,9 @@ use Rattle.model.specs.Calls.{leave, serve, head_stuck, sound, tests, act}
 use Rattle.model.specs.Places.{pad, used, all_unused, tidy}
 use Rattle.model.specs.Pool.{defaults, view, sound_by, perform_by, create}
 use Rattle.numbers.specs.Number.{decode}
-use Rattle.log.specs.Fields.{read_fields}
-use Rattle.log.specs.Record.{limit_of, record_of}
-use Rattle.log.specs.Log.{start_of}
+use Rattle.call_log.specs.Fields.{read_fields}
+use Rattle.call_log.specs.Record.{limit_of, record_of}
+use Rattle.call_log.specs.Log.{start_of}
 use Rattle.text.specs.Ascii.{ascii}
 use Rattle.text.specs.Decimal.{digits}
 use Rattle.transcript.specs.Lines.{signed}

@@ -18,13 +18,13 @@ use Rattle.model.specs.Runs.{run}
 use Rattle.model.specs.Pool.{Stored, perform, create}
 use Rattle.model.proofs.Tests.{by, and_l, and_r}
 use Rattle.numbers.specs.Number.{number_bound}
-use Rattle.log.specs.declared.Record.{Record}
-use Rattle.log.specs.declared.Start.TheVariants as start
-use Rattle.log.specs.declared.Read.TheVariants.{Taken, End, Bad}
-use Rattle.log.specs.Record.{record_of, encode_record}
-use Rattle.log.specs.Log.{start_bytes, start_of, encode_records, log_of, AllExpressible}
-use Rattle.log.proofs.Theorems.{record-encode, record-length}
-use Rattle.log.proofs.Starts.{start_encode}
+use Rattle.call_log.specs.declared.Record.{Record}
+use Rattle.call_log.specs.declared.Start.TheVariants as start
+use Rattle.call_log.specs.declared.Read.TheVariants.{Taken, End, Bad}
+use Rattle.call_log.specs.Record.{record_of, encode_record}
+use Rattle.call_log.specs.Log.{start_bytes, start_of, encode_records, log_of, AllExpressible}
+use Rattle.call_log.proofs.Theorems.{record-encode, record-length}
+use Rattle.call_log.proofs.Starts.{start_encode}
 use Rattle.text.specs.Ascii.{ascii}
 use Rattle.text.specs.Decimal.{digits, decimal, around, all_digits}
 use Rattle.transcript.specs.Lines.{signed, pool_line, answer_line, woken_line, end_line, bad_line, refused_line, too_long_line, longest_answer, longest_line, is_line}

@@ -7,13 +7,13 @@ use Rattle.model.specs.Rules.{rules}
 use Rattle.model.specs.Calls.{Call, get, poll, release, cancel, tick, Said, Reply}
 use Rattle.model.specs.Runs.{Turn}
 use Rattle.model.specs.Pool.{Stored, perform, create}
-use Rattle.log.specs.declared.Record.{Record}
-use Rattle.log.specs.declared.Record.TheVariants.{Get, Poll, Release, Cancel, Tick, PriorityGet, PriorityPoll}
-use Rattle.log.specs.declared.Start.{Start}
-use Rattle.log.specs.declared.Start.TheVariants as start
-use Rattle.log.specs.declared.Read.TheVariants.{Taken, End, Bad}
-use Rattle.log.specs.Record.{record_of}
-use Rattle.log.specs.Log.{start_of}
+use Rattle.call_log.specs.declared.Record.{Record}
+use Rattle.call_log.specs.declared.Record.TheVariants.{Get, Poll, Release, Cancel, Tick, PriorityGet, PriorityPoll}
+use Rattle.call_log.specs.declared.Start.{Start}
+use Rattle.call_log.specs.declared.Start.TheVariants as start
+use Rattle.call_log.specs.declared.Read.TheVariants.{Taken, End, Bad}
+use Rattle.call_log.specs.Record.{record_of}
+use Rattle.call_log.specs.Log.{start_of}
 use Rattle.transcript.specs.Lines.{pool_line, answer_line, woken_line, end_line, bad_line, refused_line, too_long_line}
 
 -- the most bytes of a log

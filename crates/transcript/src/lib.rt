@@ -1,5 +1,7 @@
 // The lines that a program writes for a log of calls, into a lent buffer from a place on. Each function answers the place
 // after its line.
+#![tactic(auto)]
+
 ghost use Rattle.std.specs.Prelude.{◌+◌, ◌≤◌, length};
 ghost use Rattle.numbers.specs.Wrote.{Wrote};
 ghost use Rattle.transcript.specs.Lines.{signed, pool_line, answer_line, woken_line, end_line, bad_line, refused_line, too_long_line, longest_answer, longest_line};

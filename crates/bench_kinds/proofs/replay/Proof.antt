@@ -7,7 +7,7 @@ use borrow.Author.Rules.{rules}
 use Rattle.numbers.specs.declared.Number.TheVariants.{Value}
 use Rattle.numbers.specs.Number.{number_of}
 use Rattle.numbers.proofs.Theorems.{number_within, number_five}
-use Rattle.log.proofs.Reading.{suffix}
+use Rattle.call_log.proofs.Reading.{suffix}
 use Rattle.bench_kinds.proofs.replay.Statement.{statement}
 use Rattle.bench_kinds.proofs.replay.Tie as tie
 

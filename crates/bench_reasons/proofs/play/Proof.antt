@@ -4,8 +4,8 @@ use mathlib.Core.Path.{◌≡◌, refl, sym, ◌∙◌}
 use native.Mathlib.Omega.{arith}
 use lib.ListN.{length, length-drop}
 use borrow.Author.Rules.{rules}
-use Rattle.log.proofs.Reading.{suffix}
-use Rattle.log.proofs.Theorems.{record-length}
+use Rattle.call_log.proofs.Reading.{suffix}
+use Rattle.call_log.proofs.Theorems.{record-length}
 use Rattle.bench_reasons.proofs.play.Statement.{statement}
 use Rattle.bench_reasons.proofs.play.Tie as tie
 

@@ -4,10 +4,10 @@ use mathlib.Core.Path.{◌≡◌, sym, ◌∙◌}
 use native.Mathlib.Omega.{arith}
 use lib.ListN as list
 use borrow.Author.Rules.{rules}
-use Rattle.log.specs.declared.Read.TheVariants.{Taken}
-use Rattle.log.specs.Record.{record_of}
-use Rattle.log.proofs.Reading.{suffix}
-use Rattle.log.proofs.Theorems.{record-length, record_expressible}
+use Rattle.call_log.specs.declared.Read.TheVariants.{Taken}
+use Rattle.call_log.specs.Record.{record_of}
+use Rattle.call_log.proofs.Reading.{suffix}
+use Rattle.call_log.proofs.Theorems.{record-length, record_expressible}
 use Rattle.log_text.proofs.Widths.{record-short}
 use Rattle.log_printer.proofs.Measuring.{Measuring, measuring_start, measuring_stop, measuring_many, measuring_next}
 use Rattle.log_printer.proofs.measure.Statement.{statement}

@@ -4,10 +4,10 @@ use mathlib.Core.Path.{◌≡◌, sym, ◌∙◌}
 use native.Mathlib.Omega.{arith}
 use lib.ListN.{length, drop}
 use borrow.Author.Rules.{rules}
-use Rattle.log.specs.declared.Read.TheVariants.{Taken}
-use Rattle.log.specs.Record.{record_of}
-use Rattle.log.proofs.Reading.{suffix}
-use Rattle.log.proofs.Theorems.{record-length}
+use Rattle.call_log.specs.declared.Read.TheVariants.{Taken}
+use Rattle.call_log.specs.Record.{record_of}
+use Rattle.call_log.proofs.Reading.{suffix}
+use Rattle.call_log.proofs.Theorems.{record-length}
 use Rattle.log_printer.proofs.Putting.{Putting, putting_start, putting_end, putting_fits, putting_next}
 use Rattle.log_printer.proofs.put_records.Statement.{statement}
 use Rattle.log_printer.proofs.put_records.Tie as tie

@@ -1,8 +1,8 @@
 -- `is_given` meets its contract, a case for each kind. Assumes nothing.
 use mathlib.Core.Path.{sym, ◌∙◌}
 use borrow.Author.Rules.{rules}
-use Rattle.log.specs.declared.Record.TheVariants.{Get, PriorityGet}
-use Rattle.log.proofs.Forms.{limit_test}
+use Rattle.call_log.specs.declared.Record.TheVariants.{Get, PriorityGet}
+use Rattle.call_log.proofs.Forms.{limit_test}
 use Rattle.log_writer.proofs.Rows.{limit-given}
 use Rattle.log_writer.proofs.is_given.Statement.{statement}
 use Rattle.log_writer.proofs.is_given.Tie as tie

@@ -1,7 +1,7 @@
 -- `numbers_of` meets its contract: the kind and as many fields as it has. Assumes nothing.
 use native.Mathlib.Omega.{arith}
 use borrow.Author.Rules.{rules}
-use Rattle.log.proofs.Forms.{count-few}
+use Rattle.call_log.proofs.Forms.{count-few}
 use Rattle.log_writer.proofs.Rows.{row_numbers}
 use Rattle.log_writer.proofs.numbers_of.Statement.{statement}
 use Rattle.log_writer.proofs.numbers_of.Tie as tie

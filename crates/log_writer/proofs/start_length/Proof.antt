@@ -7,8 +7,8 @@ use borrow.Author.Tests.{eq-eqb, ne_eqb}
 use borrow.Author.Rules.{rules}
 use Rattle.numbers.specs.Number.{encode}
 use Rattle.numbers.proofs.Theorems.{encode-length}
-use Rattle.log.specs.Log.{order_mark}
-use Rattle.log.proofs.Starts.{mark_one}
+use Rattle.call_log.specs.Log.{order_mark}
+use Rattle.call_log.proofs.Starts.{mark_one}
 use Rattle.log_writer.proofs.start_length.Statement.{statement}
 use Rattle.log_writer.proofs.start_length.Tie as tie
 

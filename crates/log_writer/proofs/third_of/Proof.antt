@@ -3,7 +3,7 @@ use mathlib.Core.Path.{ap, ◌∙◌}
 use mir.Syntax.{w32}
 use mir.ValLaws.{to_z-of_z}
 use borrow.Author.Rules.{rules}
-use Rattle.log.specs.Record.{limit_field}
+use Rattle.call_log.specs.Record.{limit_field}
 use Rattle.log_writer.proofs.third_of.Statement.{statement}
 use Rattle.log_writer.proofs.third_of.Tie as tie
 

@@ -4,8 +4,8 @@ use native.Mathlib.Omega.{arith}
 use lib.ListN.{length, drop}
 use borrow.Author.Rules.{rules}
 use Rattle.numbers.proofs.Wrote.{Writing, writing_start, writing_fitted, writing_end}
-use Rattle.log.specs.Fields.{encode_fields}
-use Rattle.log.proofs.Fields.{encode_next, encode_past}
+use Rattle.call_log.specs.Fields.{encode_fields}
+use Rattle.call_log.proofs.Fields.{encode_next, encode_past}
 use Rattle.log_writer.proofs.write_numbers.Statement.{statement}
 use Rattle.log_writer.proofs.write_numbers.Tie as tie
 

@@ -4,7 +4,7 @@ use native.Mathlib.Nat.{sub-zero}
 use lib.ListN.{length}
 use borrow.Author.Rules.{rules}
 use Rattle.numbers.proofs.Wrote.{Writing, writing_start, writing_fits, writing_next, writing_end}
-use Rattle.log.specs.Fields.{encode_fields}
+use Rattle.call_log.specs.Fields.{encode_fields}
 use Rattle.log_writer.specs.Writer.{columns}
 use Rattle.log_writer.specs.Steps.{numbers_of, rows_bytes}
 use Rattle.log_writer.proofs.Writing.{rows_next, rows_past}

@@ -7,7 +7,7 @@ use borrow.Author.Tests.{eq-eqb, ne_eqb}
 use borrow.Author.Rules.{rules}
 use Rattle.numbers.specs.Number.{encode}
 use Rattle.numbers.proofs.Wrote.{writing_start, writing_fitted, writing_end}
-use Rattle.log.specs.Log.{order_mark}
+use Rattle.call_log.specs.Log.{order_mark}
 use Rattle.log_writer.proofs.write_start.Statement.{statement}
 use Rattle.log_writer.proofs.write_start.Tie as tie
 

@@ -12,7 +12,7 @@ use Rattle.model.specs.declared.Woken.{Woken}
 use Rattle.model.specs.Limits.{most_tasks, e_rlwai}
 use Rattle.model.specs.Rules.{ok_task}
 use Rattle.model.specs.Places.{no_entry, pad, entries_of}
-use Rattle.model.specs.Pool.{result}
+use Rattle.model.specs.Pool.{result_of}
 use Rattle.model.specs.declared.Queue.{Queue}
 use Rattle.layout.specs.declared.Target.TheVariants as target
 use Rattle.layout.specs.declared.Surveyed.{Surveyed}
@@ -88,7 +88,7 @@ returns-4 c =
     let f = slotted c.before.before.before.before.before.before.before.before.before.before p.0.0 p.1 in
     let v = c.before.before.serve in
     cancel_done (bytes s) (queue s) (seen s) (surveyed s) (task s) (known c.before.before.before.before.before.before.before.before.before.before.before) f.waiting c.before.before.before.before.remove.result (c.before.before.before.before.remove.ensures ∙ ap (pad no_entry most_tasks) f.removed)
-    (result v.result v.new.0) _ (ap (λ (w : List Woken). set w 0 (calls.leaves e_rlwai (task s))) c.before.before.before.before.before.before.nobody.ensures) v.ensures
+    (result_of v.result v.new.0) _ (ap (λ (w : List Woken). set w 0 (calls.leaves e_rlwai (task s))) c.before.before.before.before.before.before.nobody.ensures) v.ensures
 
 pub cancel-spec : {M : Type 1} → statement M
 cancel-spec =

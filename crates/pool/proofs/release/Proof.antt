@@ -8,7 +8,7 @@ use borrow.Author.Tests.{not-true, not-false}
 use borrow.Author.Rules.{rules}
 use Rattle.model.specs.Limits.{out_of_range}
 use Rattle.model.specs.Calls as calls
-use Rattle.model.specs.Pool.{result}
+use Rattle.model.specs.Pool.{result_of}
 use Rattle.model.specs.declared.Queue.{Queue}
 use Rattle.model.specs.declared.BlockOffset.{BlockOffset}
 use Rattle.layout.specs.declared.Spot.{Spot}
@@ -100,7 +100,7 @@ returns-4 c =
     let f = c.before.before.before.before.before.before.before.before.before.release-at in
     let v = c.before.before.serve in
     release_done (bytes s) (queue s) (offset s) (seen s) (surveyed s) (spot d) (right d) (at d) f.new.0 f.result f.ensures
-    (result v.result v.new.0) c.before.before.before.nobody.result c.before.before.before.nobody.ensures v.ensures
+    (result_of v.result v.new.0) c.before.before.before.nobody.result c.before.before.before.nobody.ensures v.ensures
 
 pub release_spec : {M : Type 1} → statement M
 release_spec =

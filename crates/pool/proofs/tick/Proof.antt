@@ -6,7 +6,7 @@ use native.Mathlib.Omega.{arith}
 use borrow.Author.Tests.{not-true, not-false}
 use borrow.Author.Rules.{rules}
 use Rattle.model.specs.Calls as calls
-use Rattle.model.specs.Pool.{result}
+use Rattle.model.specs.Pool.{result_of}
 use Rattle.model.specs.declared.Queue.{Queue}
 use Rattle.layout.specs.declared.Target.TheVariants as target
 use Rattle.layout.specs.declared.Surveyed.{Surveyed}
@@ -56,7 +56,7 @@ returns-3 c =
     let s = c.before.before.before.before.before.before.before.before.before.before in
     let t = c.before.before.before.before.before.before.before.before.before.tick in
     let v = c.before.before.serve in
-    tick_done (bytes s) (queue s) (seen s) (surveyed s) t.result t.ensures (result v.result v.new.0) v.ensures
+    tick_done (bytes s) (queue s) (seen s) (surveyed s) t.result t.ensures (result_of v.result v.new.0) v.ensures
 
 pub tick-spec : {M : Type 1} → statement M
 tick-spec =

@@ -4,10 +4,10 @@ use mathlib.Core.Path.{◌≡◌, refl, ◌∙◌, sym}
 use native.Mathlib.Omega.{arith}
 use lib.ListN.{length, drop}
 use borrow.Author.Rules.{rules}
-use Rattle.log.specs.declared.Read.TheVariants.{Taken}
-use Rattle.log.specs.Record.{record_of}
-use Rattle.log.proofs.Reading.{suffix}
-use Rattle.log.proofs.Theorems.{record-length}
+use Rattle.call_log.specs.declared.Read.TheVariants.{Taken}
+use Rattle.call_log.specs.Record.{record_of}
+use Rattle.call_log.proofs.Reading.{suffix}
+use Rattle.call_log.proofs.Theorems.{record-length}
 use Rattle.numbers.proofs.Wrote.{wrote-length}
 use Rattle.stages.proofs.Playing.{Playing, playing_starts, playing_taken, playing_last, playing_full}
 use Rattle.stages.proofs.play.Statement.{statement}

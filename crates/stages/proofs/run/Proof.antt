@@ -4,7 +4,7 @@ use native.Mathlib.Omega.{arith}
 use lib.ListN.{length}
 use borrow.Author.Rules.{rules}
 use Rattle.numbers.proofs.Wrote.{wrote-length}
-use Rattle.log.proofs.Starts as starts
+use Rattle.call_log.proofs.Starts as starts
 use Rattle.transcript.proofs.Theorems.{length-pool}
 use Rattle.stages.proofs.Beginning.{begun}
 use Rattle.stages.proofs.run.Statement.{statement}

@@ -15,14 +15,14 @@ use Rattle.numbers.specs.declared.Number.{Number}
 use Rattle.numbers.specs.declared.Number.TheVariants.{Value, Refused}
 use Rattle.numbers.specs.Number.{Bytes, number_bound, number_of, decode, groups, encode}
 use Rattle.numbers.proofs.Theorems.{number_encode, encode_number, number_small, number_within, encode-length}
-use Rattle.log.specs.declared.Record.{Record}
-use Rattle.log.specs.declared.Start.TheVariants as start
-use Rattle.log.specs.declared.Read.TheVariants.{Taken}
-use Rattle.log.specs.Record.{encode_record}
-use Rattle.log.specs.Log.{order_mark, start_bytes, order_after, after_length, start_of, encode_records, AllExpressible}
-use Rattle.log.proofs.Fields.{bytes_drop}
-use Rattle.log.proofs.Records.{source}
-use Rattle.log.proofs.Theorems.{record-encode}
+use Rattle.call_log.specs.declared.Record.{Record}
+use Rattle.call_log.specs.declared.Start.TheVariants as start
+use Rattle.call_log.specs.declared.Read.TheVariants.{Taken}
+use Rattle.call_log.specs.Record.{encode_record}
+use Rattle.call_log.specs.Log.{order_mark, start_bytes, order_after, after_length, start_of, encode_records, AllExpressible}
+use Rattle.call_log.proofs.Fields.{bytes_drop}
+use Rattle.call_log.proofs.Records.{source}
+use Rattle.call_log.proofs.Theorems.{record-encode}
 
 pub mark_one : length (encode order_mark) ≡ 1
 unfolding groups

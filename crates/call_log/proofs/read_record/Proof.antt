@@ -3,9 +3,9 @@ use Prim.Native.Nat.{◌-◌}
 use mathlib.Core.Path.{sym, ◌∙◌}
 use native.Mathlib.Omega.{arith}
 use borrow.Author.Rules.{rules}
-use Rattle.log.proofs.Reading.{Reading, suffix, record_none, record-refused, reading_start, reading_refused, reading_more, reading_done}
-use Rattle.log.proofs.read_record.Statement.{statement}
-use Rattle.log.proofs.read_record.Tie as tie
+use Rattle.call_log.proofs.Reading.{Reading, suffix, record_none, record-refused, reading_start, reading_refused, reading_more, reading_done}
+use Rattle.call_log.proofs.read_record.Statement.{statement}
+use Rattle.call_log.proofs.read_record.Tie as tie
 
 abbrev invariant-loop : tie.invariant-loop
 invariant-loop rest number first kind count fields₀ at₀ i₀ fields at i = Reading rest kind count fields at i

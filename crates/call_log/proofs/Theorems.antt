@@ -6,11 +6,11 @@ use native.Mathlib.Omega.{arith}
 use lib.ListN.{length, take}
 use Rattle.numbers.specs.Number.{Bytes}
 use Rattle.numbers.proofs.Theorems.{number_one}
-use Rattle.log.specs.declared.Record.{Record}
-use Rattle.log.specs.declared.Read.TheVariants.{Taken, End}
-use Rattle.log.specs.Record.{kind_of, record_of, encode_record, Expressible}
-use Rattle.log.proofs.Forms.{count-few}
-use Rattle.log.proofs.Records.{record_read, source, source_listed, end_none}
+use Rattle.call_log.specs.declared.Record.{Record}
+use Rattle.call_log.specs.declared.Read.TheVariants.{Taken, End}
+use Rattle.call_log.specs.Record.{kind_of, record_of, encode_record, Expressible}
+use Rattle.call_log.proofs.Forms.{count-few}
+use Rattle.call_log.proofs.Records.{record_read, source, source_listed, end_none}
 
 -- what is written is read back, whatever follows
 pub record-encode : (r : Record) (rest : List ℕ) → Expressible r → record_of (encode_record r ++ rest) ≡ Taken r (length (encode_record r))

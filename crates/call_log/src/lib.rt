@@ -1,12 +1,14 @@
 // The log of calls, first the pool's length and order, then records: how it is read.
+#![tactic(auto)]
+
 ghost use Rattle.std.specs.Prelude.{◌≡◌, ◌≤◌};
-ghost use Rattle.log.specs.Record.{kind_of, field_count, limit_of, limit_field, limit_bound, record_from, record_of};
-ghost use Rattle.log.specs.Log.{start_of};
+ghost use Rattle.call_log.specs.Record.{kind_of, field_count, limit_of, limit_field, limit_bound, record_from, record_of};
+ghost use Rattle.call_log.specs.Log.{start_of};
 
 use model::{FIFO_ORDER, PRIORITY_ORDER};
 use numbers::Number;
 
-#[derive(Drop)]
+#[derive(Clone, Copy)]
 pub enum Record {
     // task, size, limit: -1 is forever, 0 is a poll, above 0 are ticks
     Get(u32, u32, i32),
@@ -29,7 +31,7 @@ pub const LONGEST_LOG: usize = 65536;
 pub const MOST_RECORDS: usize = 4096;
 
 // What a log begins with.
-#[derive(Drop)]
+#[derive(Clone, Copy)]
 pub enum Start {
     // the pool's length and order, and the place of the first record
     Taken(u32, u16, usize),
@@ -37,7 +39,7 @@ pub enum Start {
 }
 
 // What stands at the start of the rest of a log.
-#[derive(Drop)]
+#[derive(Clone, Copy)]
 pub enum Read {
     // a record, and the place after it
     Taken(Record, usize),
@@ -46,7 +48,7 @@ pub enum Read {
 }
 
 // The kinds of record. Their numbers are 1 to 7 in this order.
-#[derive(Drop)]
+#[derive(Clone, Copy)]
 pub enum Kind {
     Get,
     Poll,

@@ -11,16 +11,16 @@ use Rattle.numbers.specs.declared.Number.TheVariants.{Value, Refused}
 use Rattle.numbers.specs.Number.{number_of, encode}
 use Rattle.numbers.proofs.Decode.{side}
 use Rattle.numbers.proofs.Theorems.{number_encode, encode-length}
-use Rattle.log.specs.declared.Record.{Record}
-use Rattle.log.specs.declared.Record.TheVariants.{Get, Poll, Release, Cancel, Tick, PriorityGet, PriorityPoll}
-use Rattle.log.specs.declared.Kind.{Kind}
-use Rattle.log.specs.declared.Kind.TheVariants as kind
-use Rattle.log.specs.declared.Read.TheVariants.{Taken, End, Bad}
-use Rattle.log.specs.Fields.{Fields, Fields·read, Fields·refused, before, read_fields, encode_fields, Small}
-use Rattle.log.specs.Record.{limit_bound, limit_field, fields_of, kind_of, field_count, limited_by, record_from, made, after_kind, record_of, encode_record, Expressible}
-use Rattle.log.proofs.Fields.{Listed, read_encode, read_listed, listed_more}
-use Rattle.log.proofs.Forms.{Made, made_inv, not_taken, take_four, count-few, limit_field_lem, limit-within, limit_over}
-use Rattle.log.proofs.Reading.{record-some}
+use Rattle.call_log.specs.declared.Record.{Record}
+use Rattle.call_log.specs.declared.Record.TheVariants.{Get, Poll, Release, Cancel, Tick, PriorityGet, PriorityPoll}
+use Rattle.call_log.specs.declared.Kind.{Kind}
+use Rattle.call_log.specs.declared.Kind.TheVariants as kind
+use Rattle.call_log.specs.declared.Read.TheVariants.{Taken, End, Bad}
+use Rattle.call_log.specs.Fields.{Fields, Fields·read, Fields·refused, before, read_fields, encode_fields, Small}
+use Rattle.call_log.specs.Record.{limit_bound, limit_field, fields_of, kind_of, field_count, limited_by, record_from, made, after_kind, record_of, encode_record, Expressible}
+use Rattle.call_log.proofs.Fields.{Listed, read_encode, read_listed, listed_more}
+use Rattle.call_log.proofs.Forms.{Made, made_inv, not_taken, take_four, count-few, limit_field_lem, limit-within, limit_over}
+use Rattle.call_log.proofs.Reading.{record-some}
 
 -- a kind's number and as many fields as the kind has are read back
 numbers_read : (number : ℕ) (fs rest : List ℕ) → Small (number ∷ fs) → field_count (kind_of number) ≡ length fs

@@ -2,9 +2,9 @@
 use mir.Syntax.{w32}
 use mir.ValLaws.{to_z-of_z}
 use borrow.Author.Rules.{rules}
-use Rattle.log.proofs.Forms.{limit-within, limit_over}
-use Rattle.log.proofs.record_from.Statement.{statement}
-use Rattle.log.proofs.record_from.Tie as tie
+use Rattle.call_log.proofs.Forms.{limit-within, limit_over}
+use Rattle.call_log.proofs.record_from.Statement.{statement}
+use Rattle.call_log.proofs.record_from.Tie as tie
 
 returns : tie.Need-returns
 returns c = rw c.before.enum_told.given.1 (limit_over _ _ c.if1.true)

@@ -5,9 +5,9 @@ use native.Mathlib.Omega.{arith}
 use mir.Syntax.{w32}
 use mir.ValLaws.{to_z_pos}
 use borrow.Author.Rules.{rules}
-use Rattle.log.proofs.Forms.{limit_none, limit-some}
-use Rattle.log.proofs.limit_of.Statement.{statement}
-use Rattle.log.proofs.limit_of.Tie as tie
+use Rattle.call_log.proofs.Forms.{limit_none, limit-some}
+use Rattle.call_log.proofs.limit_of.Statement.{statement}
+use Rattle.call_log.proofs.limit_of.Tie as tie
 
 returns : tie.Need-returns
 returns c = limit_none c.before.args.field c.if1.true

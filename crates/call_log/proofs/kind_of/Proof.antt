@@ -1,8 +1,8 @@
 -- `kind_of` meets its contract, a case for each number. Assumes nothing.
 use borrow.Author.Rules.{rules}
-use Rattle.log.proofs.Forms.{kind-unknown}
-use Rattle.log.proofs.kind_of.Statement.{statement}
-use Rattle.log.proofs.kind_of.Tie as tie
+use Rattle.call_log.proofs.Forms.{kind-unknown}
+use Rattle.call_log.proofs.kind_of.Statement.{statement}
+use Rattle.call_log.proofs.kind_of.Tie as tie
 
 returns-8 : tie.Need-returns-8
 returns-8 c = let r = c.match.rest in kind-unknown _ r.0.0.0.0.0.0.1 r.0.0.0.0.0.1 r.0.0.0.0.1 r.0.0.0.1 r.0.0.1 r.0.1 r.1

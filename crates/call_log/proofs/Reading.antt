@@ -14,15 +14,15 @@ use Rattle.numbers.specs.declared.Number.TheVariants.{Value, Refused}
 use Rattle.numbers.specs.Number.{number_of}
 use Rattle.numbers.proofs.Decode.{side}
 use Rattle.numbers.proofs.Theorems.{number_within}
-use Rattle.log.specs.declared.Kind.{Kind}
-use Rattle.log.specs.declared.Record.{Record}
-use Rattle.log.specs.declared.Read.{Read}
-use Rattle.log.specs.declared.Read.TheVariants.{Taken, End, Bad}
-use Rattle.log.specs.Fields.{before, read_fields}
-use Rattle.log.specs.Record.{kind_of, field_count, record_from, made, after_kind, record_of}
-use Rattle.log.specs.contracts.Read.{the_type}
-use Rattle.log.proofs.Fields.{before-before}
-use Rattle.log.proofs.Forms.{count-few}
+use Rattle.call_log.specs.declared.Kind.{Kind}
+use Rattle.call_log.specs.declared.Record.{Record}
+use Rattle.call_log.specs.declared.Read.{Read}
+use Rattle.call_log.specs.declared.Read.TheVariants.{Taken, End, Bad}
+use Rattle.call_log.specs.Fields.{before, read_fields}
+use Rattle.call_log.specs.Record.{kind_of, field_count, record_from, made, after_kind, record_of}
+use Rattle.call_log.specs.contracts.Read.{the_type}
+use Rattle.call_log.proofs.Fields.{before-before}
+use Rattle.call_log.proofs.Forms.{count-few}
 
 -- the i fields in front of fs are read, and at is the place after them
 pub record Reading (s : List ℕ) (k : Kind) (count : ℕ) (fs : List ℕ) (at i : ℕ) : Type 0 where

@@ -9,11 +9,11 @@ use lib.ListN.{length, length-append, take-append-drop}
 use lib.Seq.{drop-append_seam}
 use Rattle.model.specs.Rules.{ok_order}
 use Rattle.numbers.specs.Number.{Bytes, number_bound}
-use Rattle.log.specs.declared.Record.{Record}
-use Rattle.log.specs.Log.{start_bytes, encode_records, log_of, log_length, AllExpressible, Log, bytes_of, read_log}
-use Rattle.log.proofs.Fields.{bytes_drop}
-use Rattle.log.proofs.Starts.{start_most, start_encode, begun}
-use Rattle.log.proofs.Logs.{length-records, records-most, records_skip, records-encode, encode-records, records_expressible, whole}
+use Rattle.call_log.specs.declared.Record.{Record}
+use Rattle.call_log.specs.Log.{start_bytes, encode_records, log_of, log_length, AllExpressible, Log, bytes_of, read_log}
+use Rattle.call_log.proofs.Fields.{bytes_drop}
+use Rattle.call_log.proofs.Starts.{start_most, start_encode, begun}
+use Rattle.call_log.proofs.Logs.{length-records, records-most, records_skip, records-encode, encode-records, records_expressible, whole}
 
 -- the length needed, at most 6 bytes for the pool's length and order and 21 for a record
 pub log-length : (n order : ℕ) (rs : List Record) → length (log_of n order rs) ≡ log_length n order rs

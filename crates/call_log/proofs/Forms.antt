@@ -15,13 +15,13 @@ use lib.Signed.{lt_z, le_z, non_neg}
 use lib.ListN.{length, take, get_or}
 use borrow.Author.Tests.{le-leb, lt-leb, lt-ltb, ltb-true, eqb-true, ne_eqb}
 use Rattle.numbers.proofs.Decode.{side}
-use Rattle.log.specs.declared.Record.{Record}
-use Rattle.log.specs.declared.Record.TheVariants.{Get, Poll, Release, Cancel, Tick, PriorityGet, PriorityPoll}
-use Rattle.log.specs.declared.Kind.{Kind}
-use Rattle.log.specs.declared.Kind.TheVariants as kind
-use Rattle.log.specs.declared.Read.{Read}
-use Rattle.log.specs.declared.Read.TheVariants.{Taken, Bad}
-use Rattle.log.specs.Record.{limit_bound, limit_of, limit_field, is_limit, Limited, fields_of, kind_of, field_count, limited_by, record_from}
+use Rattle.call_log.specs.declared.Record.{Record}
+use Rattle.call_log.specs.declared.Record.TheVariants.{Get, Poll, Release, Cancel, Tick, PriorityGet, PriorityPoll}
+use Rattle.call_log.specs.declared.Kind.{Kind}
+use Rattle.call_log.specs.declared.Kind.TheVariants as kind
+use Rattle.call_log.specs.declared.Read.{Read}
+use Rattle.call_log.specs.declared.Read.TheVariants.{Taken, Bad}
+use Rattle.call_log.specs.Record.{limit_bound, limit_of, limit_field, is_limit, Limited, fields_of, kind_of, field_count, limited_by, record_from}
 
 -- a limit and its field
 pub limit_none : (field : ℕ) → field ≡ 0 → negsuc 0 ≡ limit_of field

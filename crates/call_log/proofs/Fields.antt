@@ -11,7 +11,7 @@ use Rattle.numbers.specs.declared.Number.{Number}
 use Rattle.numbers.specs.declared.Number.TheVariants.{Value, Refused}
 use Rattle.numbers.specs.Number.{Bytes, number_of, encode}
 use Rattle.numbers.proofs.Theorems.{number_encode, encode_number, number_small, number_within, number_five}
-use Rattle.log.specs.Fields.{Fields, Fields·read, Fields·refused, before, first, read_fields, encode_fields, fields_length, Small}
+use Rattle.call_log.specs.Fields.{Fields, Fields·read, Fields·refused, before, first, read_fields, encode_fields, fields_length, Small}
 
 pub before-before : (xs : List ℕ) (a : ℕ) (ys : List ℕ) (b : ℕ) (r : Fields) → before xs a (before ys b r) ≡ before (xs ++ ys) (a + b) r
 before-before xs a ys b (Fields·read zs c) = rw (append_assoc xs ys zs, add_assoc a b c)

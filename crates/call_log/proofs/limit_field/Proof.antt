@@ -1,7 +1,7 @@
 -- `limit_field` meets its contract: 0 for forever, or one more than the limit. Assumes nothing.
-use Rattle.log.proofs.Forms.{Ticks, field_none, field_some}
-use Rattle.log.proofs.limit_field.Statement.{statement}
-use Rattle.log.proofs.limit_field.Tie as tie
+use Rattle.call_log.proofs.Forms.{Ticks, field_none, field_some}
+use Rattle.call_log.proofs.limit_field.Statement.{statement}
+use Rattle.call_log.proofs.limit_field.Tie as tie
 
 returns : tie.Need-returns
 returns c = field_none c.before.args.limit c.before.ranges.limit c.if1.true

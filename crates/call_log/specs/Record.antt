@@ -3,13 +3,13 @@ use Rattle.std.specs.Prelude.{ℕ, zero, suc, ℤ, pos, negsuc, ◌≡◌, List,
 use Rattle.numbers.specs.declared.Number.{Number}
 use Rattle.numbers.specs.declared.Number.TheVariants.{Value, Refused}
 use Rattle.numbers.specs.Number.{number_of}
-use Rattle.log.specs.declared.Record.{Record}
-use Rattle.log.specs.declared.Record.TheVariants.{Get, Poll, Release, Cancel, Tick, PriorityGet, PriorityPoll}
-use Rattle.log.specs.declared.Kind.{Kind}
-use Rattle.log.specs.declared.Kind.TheVariants as kind
-use Rattle.log.specs.declared.Read.{Read}
-use Rattle.log.specs.declared.Read.TheVariants.{Taken, End, Bad}
-use Rattle.log.specs.Fields.{Fields, Fields·read, Fields·refused, before, read_fields, encode_fields, Small}
+use Rattle.call_log.specs.declared.Record.{Record}
+use Rattle.call_log.specs.declared.Record.TheVariants.{Get, Poll, Release, Cancel, Tick, PriorityGet, PriorityPoll}
+use Rattle.call_log.specs.declared.Kind.{Kind}
+use Rattle.call_log.specs.declared.Kind.TheVariants as kind
+use Rattle.call_log.specs.declared.Read.{Read}
+use Rattle.call_log.specs.declared.Read.TheVariants.{Taken, End, Bad}
+use Rattle.call_log.specs.Fields.{Fields, Fields·read, Fields·refused, before, read_fields, encode_fields, Small}
 
 -- a limit is below 2^31, and its field, the limit plus 1, at most that
 abbrev pub limit_bound : ℕ

@@ -7,15 +7,15 @@ use native.Mathlib.Omega.{arith}
 use lib.ListN.{length, drop, length-append, take-append-drop}
 use lib.Seq.{drop-nil, drop-append_seam}
 use Rattle.numbers.specs.Number.{Bytes}
-use Rattle.log.specs.declared.Record.{Record}
-use Rattle.log.specs.declared.Start.{Start}
-use Rattle.log.specs.declared.Start.TheVariants as start
-use Rattle.log.specs.declared.Read.{Read}
-use Rattle.log.specs.declared.Read.TheVariants.{Taken, End, Bad}
-use Rattle.log.specs.Record.{fields_of, record_of, encode_record}
-use Rattle.log.specs.Log.{encode_records, records_length, AllExpressible, in_front, start_of, records_of, Log, with_start, read_log}
-use Rattle.log.proofs.Fields.{length_fields, bytes_drop}
-use Rattle.log.proofs.Theorems.{record-encode, encode-record, record_expressible, record-length, record_end, encode-record-length}
+use Rattle.call_log.specs.declared.Record.{Record}
+use Rattle.call_log.specs.declared.Start.{Start}
+use Rattle.call_log.specs.declared.Start.TheVariants as start
+use Rattle.call_log.specs.declared.Read.{Read}
+use Rattle.call_log.specs.declared.Read.TheVariants.{Taken, End, Bad}
+use Rattle.call_log.specs.Record.{fields_of, record_of, encode_record}
+use Rattle.call_log.specs.Log.{encode_records, records_length, AllExpressible, in_front, start_of, records_of, Log, with_start, read_log}
+use Rattle.call_log.proofs.Fields.{length_fields, bytes_drop}
+use Rattle.call_log.proofs.Theorems.{record-encode, encode-record, record_expressible, record-length, record_end, encode-record-length}
 
 pub no_some : {A : Type 0} {X : Type 0} {x : X} → none ≡ some x → A
 no_some e = let z : ◌≡◌ {A = ℕ} 0 1 = cc in absurd (omega arith)

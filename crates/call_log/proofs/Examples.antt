@@ -7,14 +7,14 @@ use lib.IntN.{pos, negsuc}
 use lib.ListN.{take, drop}
 use Rattle.model.specs.Limits.{fifo_order, priority_order}
 use Rattle.numbers.specs.Number.{decode, groups}
-use Rattle.log.specs.declared.Record.{Record}
-use Rattle.log.specs.declared.Record.TheVariants.{Get, Poll, Release, Cancel, Tick, PriorityGet, PriorityPoll}
-use Rattle.log.specs.declared.Start.TheVariants as start
-use Rattle.log.specs.declared.Read.{Read}
-use Rattle.log.specs.declared.Read.TheVariants.{Taken, End, Bad}
-use Rattle.log.specs.Fields.{read_fields, encode_fields, fields_length}
-use Rattle.log.specs.Record.{limit_of, limit_field, fields_of, record_of, encode_record}
-use Rattle.log.specs.Log.{records_length, log_length, start_of, records_of, read_log}
+use Rattle.call_log.specs.declared.Record.{Record}
+use Rattle.call_log.specs.declared.Record.TheVariants.{Get, Poll, Release, Cancel, Tick, PriorityGet, PriorityPoll}
+use Rattle.call_log.specs.declared.Start.TheVariants as start
+use Rattle.call_log.specs.declared.Read.{Read}
+use Rattle.call_log.specs.declared.Read.TheVariants.{Taken, End, Bad}
+use Rattle.call_log.specs.Fields.{read_fields, encode_fields, fields_length}
+use Rattle.call_log.specs.Record.{limit_of, limit_field, fields_of, record_of, encode_record}
+use Rattle.call_log.specs.Log.{records_length, log_length, start_of, records_of, read_log}
 
 -- the rest of a log after what was read
 abbrev rest : Read → List ℕ → List ℕ

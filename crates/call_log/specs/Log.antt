@@ -5,12 +5,12 @@ use Rattle.model.specs.Limits.{fifo_order, priority_order}
 use Rattle.numbers.specs.declared.Number.{Number}
 use Rattle.numbers.specs.declared.Number.TheVariants.{Value, Refused}
 use Rattle.numbers.specs.Number.{number_of, encode}
-use Rattle.log.specs.declared.Record.{Record}
-use Rattle.log.specs.declared.Start.{Start}
-use Rattle.log.specs.declared.Start.TheVariants as start
-use Rattle.log.specs.declared.Read.TheVariants.{Taken, End, Bad}
-use Rattle.log.specs.Fields.{fields_length}
-use Rattle.log.specs.Record.{fields_of, record_of, encode_record, Expressible}
+use Rattle.call_log.specs.declared.Record.{Record}
+use Rattle.call_log.specs.declared.Start.{Start}
+use Rattle.call_log.specs.declared.Start.TheVariants as start
+use Rattle.call_log.specs.declared.Read.TheVariants.{Taken, End, Bad}
+use Rattle.call_log.specs.Fields.{fields_length}
+use Rattle.call_log.specs.Record.{fields_of, record_of, encode_record, Expressible}
 
 -- the most records that are written
 abbrev pub most_records : ℕ

@@ -7,10 +7,10 @@ use borrow.Author.Rules.{rules}
 use Rattle.numbers.specs.declared.Number.TheVariants.{Value}
 use Rattle.numbers.specs.Number.{number_of}
 use Rattle.numbers.proofs.Theorems.{number_five, number_within}
-use Rattle.log.proofs.Reading.{suffix}
-use Rattle.log.proofs.Starts.{start_bad, start_alone, start_other, start_marked}
-use Rattle.log.proofs.read_start.Statement.{statement}
-use Rattle.log.proofs.read_start.Tie as tie
+use Rattle.call_log.proofs.Reading.{suffix}
+use Rattle.call_log.proofs.Starts.{start_bad, start_alone, start_other, start_marked}
+use Rattle.call_log.proofs.read_start.Statement.{statement}
+use Rattle.call_log.proofs.read_start.Tie as tie
 
 returns : tie.Need-returns
 returns c = start_bad _ (sym c.before.before.read_number.ensures ∙ c.enum_told.given.1)
