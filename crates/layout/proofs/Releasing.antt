@@ -176,6 +176,7 @@ first_live p bs r ne h = go r.pre r.lead r.lead_free r.is r.place
         → LiveFirst (pre ++ (block (total lead + (r.b.size + total r.tail)) 0 ∷ r.post))
     go [] [] no_one e q = absurd (ne q)
     go [] (f ∷ []) (one f' k) e q = clash (is_free f) k (rw e at h)
+    go [] (f ∷ (_ ∷ _)) k e q = elim k [ ]
     go (d ∷ pre) lead k e q = rw e at h
 
 second : (tasks : ℕ) (q : Bool) (p : ℕ) (c : Block) (bs : List Block) → tiled tasks q bs ≡ true → live_at 0 bs ≡ true → p ≡ c.size → 0 < c.size → Around p (c ∷ bs)
@@ -301,6 +302,7 @@ module _ (l : List ℕ) (pre post : List Block) (b : Block) (rp : Roomy pre) (hb
       ap (put (total pre + b.size) (header (block 0 0))) (sym own ∙ ap (λ (m : List (Option ℕ)). overlay m l) (mask_append header pre (b ∷ c ∷ post) ∙ sym (append_assoc a (cell header b) (cell header c ++ mask header post))))
       ∙ wipe (total pre + b.size) c (a ++ cell header b) (mask header post) l k
       ∙ ap (λ (m : List (Option ℕ)). overlay m l) (simp (append_assoc, append-nil))
+  alone (c ∷ (_ ∷ _)) x7 r own = elim x7 [ ]
 
   -- and is taken in by the one before it
   paired : (f : Block) → 8 ≤ f.size → (tail : List Block) → FreeOne tail → Roomy tail → overlay (mask header (pre ++ (f ∷ b ∷ (tail ++ post)))) l ≡ l
@@ -323,6 +325,7 @@ module _ (l : List ℕ) (pre post : List Block) (b : Block) (rp : Roomy pre) (hb
       ∙ ap (put (total pre + f.size) (header (block 0 0))) (wipe (total pre + f.size + b.size) c ((a ++ cell header f) ++ cell header b) (mask header post) l k2 ∙ ap (λ (m : List (Option ℕ)). overlay m l) back)
       ∙ wipe (total pre + f.size) b (a ++ cell header f) (cell blank c ++ mask header post) l k
       ∙ ap (λ (m : List (Option ℕ)). overlay m l) (simp (append_assoc, append-nil))
+  paired f hf (c ∷ (_ ∷ _)) x7 r own = elim x7 [ ]
 
   -- the header of the joined block completes it
   completed : (m x : Block) (rest : List Block) → 8 ≤ x.size → Roomy rest → m.size ≡ x.size + total rest
@@ -372,6 +375,7 @@ swallow_tail l e [] (d ∷ ds) b no_one n r s = swallow_live l e d (omega (arith
 swallow_tail l e (c ∷ []) post b (one c' f) n r s =
     swallow_free l e c (omega (arith, r.0)) (header-at e l c post b (omega (arith, r.0))) f
     ∙ ap (λ (k : ℕ). swallowed k (put e (header (block 0 0)) l)) (sym (add-zero c.size))
+swallow_tail l e (c ∷ (_ ∷ _)) post b x9 n r s = elim x9 [ ]
 
 -- room for the header of the block behind
 next_room : (l : List ℕ) (e : ℕ) (bs : List Block) → Roomy bs → e + total bs ≡ length l → e < length l → e + 8 ≤ length l
@@ -452,6 +456,7 @@ module _ (l : List ℕ) (p : ℕ) (pre : List Block) (b : Block) (tail post : Li
             ∙ sym (λ i. render (a i) (erase (e i) l))),
         λ h. absurd (omega (arith, hf)),
       )
+  left (f ∷ (_ ∷ _)) x8 e q a = elim x8 [ ]
 
 -- ---- the runs after a release
 

@@ -6,6 +6,9 @@ ghost use Rattle.layout.specs.Layout.{changed, Grantable, Releasable, Released, 
 use crate::{Spot, header};
 use model::HeaderPlace;
 
+// No less than this is split off: a header and four bytes.
+const LEAST_REST: usize = 12;
+
 // Gives the free run at a place to a task: a block of `need` bytes and a free run behind it where 12 bytes or more are left over, else all of it.
 pub fn grant_at(s: &mut [u8], place: HeaderPlace, need: usize, task: usize)
     requires { Grantable s.old place need }
@@ -14,7 +17,7 @@ pub fn grant_at(s: &mut [u8], place: HeaderPlace, need: usize, task: usize)
     let at = place.0;
     let size = header::read_u32(s, at);
     let rest = size - need;
-    if 12 <= rest {
+    if LEAST_REST <= rest {
         header::write_header(s, HeaderPlace(at), need, task);
         header::write_header(s, HeaderPlace(at + need), rest, 0);
     } else {
