@@ -1,0 +1,8 @@
+-- proofs/empty/Answers.antt
+use Rattle.model.specs.Limits.{most_tasks}
+use Rattle.model.specs.Places.{no_entry}
+use Rattle.queue.proofs.Places.{pad-nil}
+use Rattle.queue.proofs.empty.Goals as goal
+
+pub returns : goal.returns
+returns c = pad-nil no_entry most_tasks
