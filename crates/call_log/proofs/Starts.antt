@@ -17,7 +17,6 @@ use Rattle.numbers.specs.Number.{Bytes, number_bound, number_of, decode, groups,
 use Rattle.numbers.proofs.Theorems.{number_encode, encode_number, number_small, number_within, encode-length}
 use Rattle.call_log.specs.declared.Record.{Record}
 use Rattle.call_log.specs.declared.Start.TheVariants as start
-use Rattle.call_log.specs.declared.Read.TheVariants.{Taken}
 use Rattle.call_log.specs.Record.{encode_record}
 use Rattle.call_log.specs.Log.{order_mark, start_bytes, order_after, after_length, start_of, encode_records, AllExpressible}
 use Rattle.call_log.proofs.Fields.{bytes_drop}
