@@ -8,8 +8,6 @@ use native.Mathlib.Nat.{add-zero, sub-zero}
 use native.Mathlib.Numerals.{add-one}
 use lib.ListN.{length, take, drop, get_or, set, replicate, length-set, length-drop, length-take, get_or-eq_default}
 use lib.Seq.{take_all, take-suc-set, drop-drop, get_or-set_other, get_or-take}
-use denote.Enum.Declared.{tag_of}
-use types.Run.{OneOf, miss}
 use Rattle.numbers.specs.declared.Number.TheVariants.{Value, Refused}
 use Rattle.numbers.specs.Number.{number_of}
 use Rattle.numbers.proofs.Decode.{side}
@@ -20,7 +18,6 @@ use Rattle.call_log.specs.declared.Read.{Read}
 use Rattle.call_log.specs.declared.Read.TheVariants.{Taken, End, Bad}
 use Rattle.call_log.specs.Fields.{before, read_fields}
 use Rattle.call_log.specs.Record.{kind_of, field_count, record_from, made, after_kind, record_of}
-use Rattle.call_log.specs.contracts.Read.{the_type}
 use Rattle.call_log.proofs.Fields.{before-before}
 use Rattle.call_log.proofs.Forms.{count-few}
 
@@ -102,10 +99,10 @@ module _ {s : List ℕ} {k : Kind} {count : ℕ} {fs : List ℕ} {at i : ℕ} (g
       let z : count - i ≡ 0 = omega arith in
       rw (g.same, z, append-nil (take i fs), taken 0, taken 1, taken 2, taken 3, add-zero at)
 
--- ---- what `let .. else` tells of an answer of the reader that is no record: its variant is the second or the third
+-- ---- an answer of the reader that is no record, as `let .. else` tells it
 
 abbrev pub NoRecord : Read → Type 0
-NoRecord x = OneOf (1 ∷ 2 ∷ []) (tag_of the_type x)
+NoRecord x = (r : Record) (n : ℕ) → x ≡ Taken r n → ⊥
 
 pub no_record : {A : Type 0} (r : Record) (n : ℕ) → NoRecord (Taken r n) → A
-no_record r n other = absurd (miss (1 ∷ 2 ∷ []) 0 tt other)
+no_record r n other = absurd (other r n refl)
