@@ -250,6 +250,9 @@ pub struct Ticked {
     pub count: usize,
 }
 
+// The time left of a wait whose last tick comes.
+const LAST_LEFT: u32 = 1;
+
 // A tick: each limited wait loses one, and those that reach none leave.
 pub fn tick(entries: [Entry; TASKS]) -> Ticked
     ensures { result ≡ ticked_of entries }
@@ -265,7 +268,7 @@ pub fn tick(entries: [Entry; TASKS]) -> Ticked
             break;
         }
         i += 1;
-        if e.left == 1 {
+        if e.left == LAST_LEFT {
             woken[n] = Woken {
                 task: e.task as u32,
                 code: E_TMOUT,

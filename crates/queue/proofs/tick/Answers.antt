@@ -8,11 +8,11 @@ use Rattle.queue.proofs.tick.Goals as goal
 pub loop-i-init : goal.loop-i-init
 loop-i-init c = tick_start _ _ _ c.empty-stay.ensures c.nobody-woken.ensures
 
-pub loop-i-preserved-then-e-eq1 : goal.loop-i-preserved-then-e-eq1
-loop-i-preserved-then-e-eq1 c = tick-leave _ _ _ _ _ _ c.loop-i.invariant c.if-e-eq0.false c.if-e-eq1.true
+pub loop-i-preserved-then-e-eq-LAST_LEFT : goal.loop-i-preserved-then-e-eq-LAST_LEFT
+loop-i-preserved-then-e-eq-LAST_LEFT c = tick-leave _ _ _ _ _ _ c.loop-i.invariant c.if-e-eq0.false c.if-e-eq-LAST_LEFT.true
 
 pub loop-i-preserved : goal.loop-i-preserved
-loop-i-preserved c = rw c.age.ensures (tick_stay _ _ _ _ _ _ c.loop-i.invariant c.if-e-eq0.false c.if-e-eq1.false)
+loop-i-preserved c = rw c.age.ensures (tick_stay _ _ _ _ _ _ c.loop-i.invariant c.if-e-eq0.false c.if-e-eq-LAST_LEFT.false)
 
 pub returns-after-loop-i : goal.returns-after-loop-i
 returns-after-loop-i c =
