@@ -27,7 +27,7 @@ use Rattle.log_text.specs.declared.Slot.TheVariants.{Number, Limit, Priority, Or
 use Rattle.log_text.specs.declared.Line.TheVariants.{Pool, Call}
 use Rattle.log_text.specs.declared.Parts.{Parts}
 use Rattle.log_text.specs.Form.{keyword_text, limit_text, priority_text, form, number_most, limit_most, Bounded}
-use Rattle.log_text.specs.Reading.{take_slots, get_with, poll_with, line_of, limited, line_after, Parsed·log, parse_lines, longest_text, parse}
+use Rattle.log_text.specs.Reading.{take_slots, get_with, poll_with, line_of, line_after, Parsed·log, parse_lines, longest_text, parse}
 use Rattle.log_text.specs.Printing.{parts, pool_parts, parts_of, slot_words, slots_words, line_words, joined, parts_text, longest_line, records_text, Printable, text_of}
 use Rattle.log_text.proofs.Bounds.{record-bounded, pool-bounded}
 use Rattle.log_text.proofs.Widths.{record-short, pool-short}
