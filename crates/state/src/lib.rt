@@ -21,6 +21,7 @@ fn are_valid(attributes: Attributes, n: usize) -> bool
 }
 
 // Whether create takes a pool of `n` bytes with these attributes.
+#[tactic(auto, unfolding(model::specs::Rules::rules))]
 pub fn is_valid(attributes: Attributes, n: usize) -> bool
     ensures { result ≡ (rules attributes n).valid }
 {
