@@ -1,10 +1,9 @@
 -- The text of a whole log: refused, too long for the buffer, or written. Assumes nothing.
 use Prim.Native.Nat.{ℕ, ◌+◌, ◌<◌, ◌≤◌}
 use mathlib.Core.Path.{◌≡◌, refl, sym, ◌∙◌}
-use mathlib.Core.List.{List, [], ◌∷◌, ◌++◌, append-nil}
+use mathlib.Core.List.{List, [], ◌++◌, append-nil}
 use native.Mathlib.Omega.{arith}
 use lib.ListN.{length, length-append}
-use denote.Enum.Declared.{tag_of}
 use borrow.Author.Tests.{le-leb, lt-leb}
 use Rattle.numbers.specs.Wrote.{Wrote}
 use Rattle.numbers.specs.Fill.{outcome}
@@ -19,13 +18,11 @@ use Rattle.log_printer.specs.declared.Printed.{Printed}
 use Rattle.log_printer.specs.declared.Printed.TheVariants.{Text, Bad, TooLong, NoRoom}
 use Rattle.log_printer.specs.Printer.{printed, print_log}
 use Rattle.log_printer.specs.Steps.{measured, text_in, Room}
-use Rattle.log_printer.specs.contracts.Printed.{the_type}
 use Rattle.log_text.proofs.Widths.{pool-short}
-use types.Run.{OneOf, miss}
 
--- what `let .. else` tells of an answer that is no text: its variant is not the first
+-- what `let .. else` tells of an answer that is no text
 abbrev pub NoText : Printed → Type 0
-NoText x = OneOf (1 ∷ 2 ∷ 3 ∷ 4 ∷ []) (tag_of the_type x)
+NoText x = (n : ℕ) → x ≡ Text n → ⊥
 
 module _ (log buf : List ℕ) where
   pub print_too_long : longest_log < length log → outcome TooLong buf ≡ print_log log buf
@@ -60,7 +57,7 @@ module _ {log : List ℕ} {n order place first : ℕ} (g : Started log n order p
   measure_requires = ((begun log n order place g.taken).inside, rw g.line (first_short log n order place g.taken))
 
   refused : (buf : List ℕ) (x : printing.Printed) → NoText (measured first x) → outcome (measured first x) buf ≡ printed (in_front line x) buf
-  refused buf (Printed·text t) other = absurd (miss (1 ∷ 2 ∷ 3 ∷ 4 ∷ []) 0 tt other)
+  refused buf (Printed·text t) other = absurd (other _ refl)
   refused buf (Printed·bad at) other = refl
   refused buf Printed·tooMany other = refl
   refused buf Printed·tooLong other = refl
