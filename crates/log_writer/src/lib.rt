@@ -116,7 +116,8 @@ fn log_length(
         return Needed::Refused;
     }
     let count = kinds.len();
-    if MOST_RECORDS < count {
+    let too_many = MOST_RECORDS < count;
+    if too_many {
         return Needed::Refused;
     }
     if !are_level(kinds, firsts, seconds, limits, priorities) {

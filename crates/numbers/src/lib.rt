@@ -25,7 +25,8 @@ pub fn read_number(s: &[u8]) -> Number
     }
     // most numbers of a log have one byte
     let first = s[0] as u32;
-    if first < 128 {
+    let is_whole = first < 128;
+    if is_whole {
         return Number::Value(first, 1);
     }
     let mut value = first - 128;
@@ -40,7 +41,8 @@ pub fn read_number(s: &[u8]) -> Number
         }
         if b < 128 {
             // in the shortest form a last byte of 0 is the only byte
-            if b == 0 {
+            let is_empty = b == 0;
+            if is_empty {
                 return Number::Refused;
             }
             return Number::Value(value + weight * b, i + 1);

@@ -5,8 +5,8 @@ use Rattle.log_writer.proofs.log_length.Goals as goal
 pub returns-then-not-order : goal.returns-then-not-order
 returns-then-not-order c = refused-order _ _ _ c.if-not-order.true
 
-pub returns-then-count-gt-MOST_RECORDS : goal.returns-then-count-gt-MOST_RECORDS
-returns-then-count-gt-MOST_RECORDS c = refused_many _ _ _ c.if-count-gt-MOST_RECORDS.true
+pub returns-then-too_many : goal.returns-then-too_many
+returns-then-too_many c = refused_many _ _ _ c.if-too_many.true
 
 pub returns-then-not-are_level : goal.returns-then-not-are_level
 returns-then-not-are_level c = refused_uneven _ _ _ (sym c.are_level.ensures ∙ c.if-not-are_level.true)
@@ -14,7 +14,7 @@ returns-then-not-are_level c = refused_uneven _ _ _ (sym c.are_level.ensures ∙
 pub loop-i-init : goal.loop-i-init
 loop-i-init c =
     let even = level_open _ (sym c.are_level.ensures ∙ c.if-not-are_level.false) in
-    measuring_start _ _ _ _ c.if-not-order.false even c.if-count-gt-MOST_RECORDS.false c.start_length-length.ensures
+    measuring_start _ _ _ _ c.if-not-order.false even c.if-too_many.false c.start_length-length.ensures
 
 pub returns-then-not-is_given : goal.returns-then-not-is_given
 returns-then-not-is_given c =
