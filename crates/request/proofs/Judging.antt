@@ -22,7 +22,7 @@ use Rattle.model.specs.Blocks.{Block, fits, first_fit, granted}
 use Rattle.model.specs.Bytes.{blocks_of}
 use Rattle.model.specs.Waiting.{waits}
 use Rattle.model.specs.Rules.{Rules, ok_task, most_asked, ok_size, ok_priority, need_of, rank_by, rules}
-use Rattle.model.specs.Calls.{offset_of, no_place, Request, get, plain, deny, ok_limit, is_poll, left_of, entry_of, State, state, blocks, goes, tests, act}
+use Rattle.model.specs.Calls.{offset_of, no_place, Request, get, plain, deny, ok_limit, is_poll, left_of, entry_of, State, blocks, goes, tests, act}
 use Rattle.model.specs.Places.{entries_of, tidy, woken_of}
 use Rattle.model.specs.Pool.{Stored, stored, view, perform_by, rules_of, is_sound, result_of, answered, called}
 use Rattle.model.proofs.Tests.{by, and_l, and_r, and_f_r, not_f}
