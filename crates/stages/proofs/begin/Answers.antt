@@ -1,5 +1,5 @@
 -- `stages::begin` is safe: the start lies within the log, and the pool within its buffer. Assumes nothing.
-use Rattle.std.proofs.Common.{◌≡◌, ◌≤◌, arith, sym, ◌∙◌}
+use Rattle.std.proofs.Common.{◌≤◌, arith, sym}
 use Rattle.model.specs.declared.Attributes.{Attributes}
 use Rattle.numbers.proofs.Wrote.{wrote-length}
 use Rattle.transcript.proofs.Theorems.{length_bad}

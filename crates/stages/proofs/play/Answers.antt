@@ -1,7 +1,6 @@
 -- `stages::play` meets its contract: each turn of its loop keeps `Playing`. Assumes nothing.
-use Rattle.std.proofs.Common.{◌≡◌, ◌+◌, ◌≤◌, ℕ, List, length, drop, arith, sym}
+use Rattle.std.proofs.Common.{◌≡◌, drop, arith, sym}
 use Rattle.call_log.specs.declared.Read.TheVariants.{Taken}
-use Rattle.call_log.specs.declared.Record.{Record}
 use Rattle.call_log.specs.Record.{record_of}
 use Rattle.call_log.proofs.Reading.{suffix}
 use Rattle.call_log.proofs.Theorems.{record-length}

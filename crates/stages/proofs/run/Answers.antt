@@ -1,5 +1,5 @@
 -- `stages::run` is safe: the line `pool N` leaves room for a step. Assumes nothing.
-use Rattle.std.proofs.Common.{◌≡◌, length, arith, refl, ◌∙◌, rules}
+use Rattle.std.proofs.Common.{length, arith, refl, ◌∙◌, rules}
 use Rattle.numbers.proofs.Wrote.{wrote-length}
 use Rattle.call_log.proofs.Starts as starts
 use Rattle.transcript.proofs.Theorems.{length-pool}
