@@ -1,3 +1,4 @@
+-- `play` is safe and ends: each record that is read has a byte. Assumes nothing.
 use Rattle.std.proofs.Common.{◌-◌, length}
 use Rattle.bench_reasons.proofs.play.Given as goal
 

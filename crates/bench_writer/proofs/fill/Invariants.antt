@@ -1,3 +1,4 @@
+-- `fill` ends: `i` goes up to the length. Assumes nothing.
 use Rattle.std.proofs.Common.{◌-◌, length}
 use Rattle.bench_writer.proofs.fill.Given as goal
 

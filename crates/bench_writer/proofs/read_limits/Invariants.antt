@@ -1,3 +1,4 @@
+-- `read_limits` ends: `i` goes up to the number of words. Assumes nothing.
 use Rattle.std.proofs.Common.{◌-◌, length}
 use Rattle.bench_writer.proofs.read_limits.Given as goal
 

@@ -1,3 +1,4 @@
+-- `read_words` ends: `i` goes up to the number of words. Assumes nothing.
 use Rattle.std.proofs.Common.{◌-◌, length}
 use Rattle.bench_writer.proofs.read_words.Given as goal
 
