@@ -170,7 +170,7 @@ fn write_rows(
     priorities: &[u32],
 ) -> usize
     requires level { Level (columns kinds.now firsts.now seconds.now limits.now priorities.now) }
-    requires kinds_in_bounds { start + length (rows_bytes (columns kinds.now firsts.now seconds.now limits.now priorities.now) 0 (length kinds.now)) ≤ length buf.old }
+    requires room { start + length (rows_bytes (columns kinds.now firsts.now seconds.now limits.now priorities.now) 0 (length kinds.now)) ≤ length buf.old }
     ensures { Wrote buf.old start
         (rows_bytes (columns kinds.now firsts.now seconds.now limits.now priorities.now) 0 (length kinds.now))
         buf.new result }

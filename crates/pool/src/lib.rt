@@ -128,7 +128,8 @@ pub fn tick(pool: &mut [u8], queue: Queue) -> Answer
     let ticked = queue::tick(entries);
     let stay = ticked.entries;
     let woken = ticked.woken;
-    if ticked.count == 0 {
+    let nobody_left = ticked.count == 0;
+    if nobody_left {
         let attributes = queue.attributes;
         return Answer {
             code: 0,

@@ -21,7 +21,8 @@ pub fn reason_of(pool: &[u8], offset: BlockOffset, spot: Spot) -> Reason
     if offset.0 < 8 {
         return Reason(OUT_OF_RANGE, HeaderPlace(0));
     }
-    if offset.0 % 4 != 0 {
+    let is_uneven = offset.0 % 4 != 0;
+    if is_uneven {
         return Reason(MISALIGNED, HeaderPlace(0));
     }
     let place = spot.place;

@@ -11,7 +11,7 @@ pub write_rows-end-requires : goal.write_rows-end-requires
 write_rows-end-requires c =
     let log = measured _ _ _ _ (sym c.in-Length.ensures) in
     let fit = rows_fit log _ c.if-buf-length.false c.write_start-start.ensures in
-    record { level = fit.0; kinds_in_bounds = fit.1 }
+    record { level = fit.0; room = fit.1 }
 
 pub returns : goal.returns
 returns c =

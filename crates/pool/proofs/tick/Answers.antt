@@ -13,10 +13,10 @@ returns-then-not-seen c =
     rw c.refuse.ensures (called_unsound calls.tick c.args.pool.now c.args.queue (unsound target.Nothing c.args.pool.now c.args.queue c.inspect-seen.result c.inspect-seen.ensures (not-true _ c.if-not-seen.true)))
 
 -- nobody leaves
-pub returns-then-ticked-eq0 : goal.returns-then-ticked-eq0
-returns-then-ticked-eq0 c =
+pub returns-then-nobody_left : goal.returns-then-nobody_left
+returns-then-nobody_left c =
     tick_none c.args.pool.now c.args.queue c.inspect-seen.result (told target.Nothing c.args.pool.now c.args.queue c.inspect-seen.result c.inspect-seen.ensures (not-false _ c.if-not-seen.false))
-    c.tick-ticked.result c.tick-ticked.ensures c.if-ticked-eq0.true (search rules)
+    c.tick-ticked.result c.tick-ticked.ensures c.if-nobody_left.true (search rules)
 
 pub overflow_add-seen : goal.overflow_add-seen
 overflow_add-seen c =
