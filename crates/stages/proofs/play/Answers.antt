@@ -1,7 +1,5 @@
 -- `stages::play` meets its contract: each turn of its loop keeps `Playing`. Assumes nothing.
-use Rattle.std.proofs.Common.{◌≡◌, drop, arith, sym}
-use Rattle.call_log.specs.declared.Read.TheVariants.{Taken}
-use Rattle.call_log.specs.Record.{record_of}
+use Rattle.std.proofs.Common.{arith, sym}
 use Rattle.call_log.proofs.Reading.{suffix}
 use Rattle.call_log.proofs.Theorems.{record-length}
 use Rattle.numbers.proofs.Wrote.{wrote-length}
@@ -24,16 +22,10 @@ pub loop-end-preserved : goal.loop-end-preserved
 loop-end-preserved c = playing_taken c.loop-end.invariant _ _ c.step-done.result (sym (rw suffix at c.in-Taken.ensures)) c.step-done.ensures (omega arith)
 
 pub overflow_add-at : goal.overflow_add-at
-overflow_add-at c =
-    let found : record_of (drop c.loop-end.at c.args.log.now) ≡ Taken c.in-Taken.made c.in-Taken.size = sym (rw suffix at c.in-Taken.ensures) in
-    let next = playing_taken c.loop-end.invariant _ _ c.step-done.result found c.step-done.ensures (omega arith) in
-    omega (arith, next.place, c.requires.short_log)
+overflow_add-at c = omega (arith, (loop-end-preserved c).place, c.requires.short_log)
 
 pub loop-end-smaller : goal.loop-end-smaller
-loop-end-smaller c =
-    let found : record_of (drop c.loop-end.at c.args.log.now) ≡ Taken c.in-Taken.made c.in-Taken.size = sym (rw suffix at c.in-Taken.ensures) in
-    let next = playing_taken c.loop-end.invariant _ _ c.step-done.result found c.step-done.ensures (omega arith) in
-    omega (arith, next.place, record-length _ _ _ found)
+loop-end-smaller c = omega (arith, (loop-end-preserved c).place, record-length _ _ _ (sym (rw suffix at c.in-Taken.ensures)))
 
 pub returns : goal.returns
 returns c = playing_full c.args.from c.loop-end.invariant c.requires.going (omega (arith, c.requires.line)) (omega arith)
