@@ -3,10 +3,10 @@ use crate::start::Example;
 use crate::{show, start};
 
 fn a_to_e() {
-    show::title(b"a");
+    show::title("a");
     start::fresh(
         &mut [170; 64],
-        b"show\n\
+        "show\n\
         # b, after a\n\
         get 1 10\n\
         show\n\
@@ -26,41 +26,26 @@ fn a_to_e() {
 fn f_to_j() {
     start::after(
         Example::E,
-        &mut [170; 64],
-        b"# f, after e\ninquire\npoll 5 4\ninquire\nshow\n",
+        "# f, after e\ninquire\npoll 5 4\ninquire\nshow\n",
     );
-    start::after(
-        Example::E,
-        &mut [170; 64],
-        b"# g, after e\ncancel 3\nshow\n",
-    );
-    start::after(
-        Example::E,
-        &mut [170; 64],
-        b"# h, after e\nrelease 8\nshow\n",
-    );
+    start::after(Example::E, "# g, after e\ncancel 3\nshow\n");
+    start::after(Example::E, "# h, after e\nrelease 8\nshow\n");
+    start::after(Example::C, "# i, after c\nrelease 28\nshow\n");
     start::after(
         Example::C,
-        &mut [170; 64],
-        b"# i, after c\nrelease 28\nshow\n",
-    );
-    start::after(
-        Example::C,
-        &mut [170; 64],
-        b"# j, after c\nrelease 12\nrelease 8\nrelease 8\nshow\n",
+        "# j, after c\nrelease 12\nrelease 8\nrelease 8\nshow\n",
     );
 }
 
 // One more than the greatest size, then the greatest. One tick wakes nobody, the second ends the wait.
 fn k_and_l() {
-    show::title(b"k");
-    start::fresh(&mut [170; 64], b"get 1 57\nget 1 56\nshow\n");
-    show::title(b"k");
-    start::fresh(&mut [170; 12], b"get 1 5\nget 1 4\nshow\n");
+    show::title("k");
+    start::fresh(&mut [170; 64], "get 1 57\nget 1 56\nshow\n");
+    show::title("k");
+    start::fresh(&mut [170; 12], "get 1 5\nget 1 4\nshow\n");
     start::after(
         Example::C,
-        &mut [170; 64],
-        b"# l, after c\nget 3 12 limit 1\nget 4 4\ntick\nshow\ntick\nshow\n",
+        "# l, after c\nget 3 12 limit 1\nget 4 4\ntick\nshow\ntick\nshow\n",
     );
 }
 

@@ -1,15 +1,25 @@
 // Pools with size kinds.
 use crate::{refusals, script, show, start};
-use model::{Attributes, FIFO_ORDER, Queue, WITH_KINDS};
+use model::{Attributes, DEFAULTS, Queue, WITH_KINDS};
+
+// A choice of rounding and a greatest request.
+fn rounded(kinds: u16, greatest: u32) -> Attributes {
+    Attributes {
+        kinds,
+        greatest,
+        ..DEFAULTS
+    }
+}
 
 // The greatest request is 20, so the kinds are 12 and 36.
-fn two_kinds(buffer: &mut [u8; 64]) {
-    show::title(b"kinds 12 and 36");
-    let fresh = start::create_with(buffer, WITH_KINDS, 20, FIFO_ORDER);
+fn two_kinds() {
+    show::title("kinds 12 and 36");
+    let mut buffer = [170; 64];
+    let fresh = start::create_with(&mut buffer, rounded(WITH_KINDS, 20));
     let left = script::run(
-        buffer,
+        &mut buffer,
         fresh,
-        b"get 1 21\n\
+        "get 1 21\n\
         get 1 1\n\
         get 2 13\n\
         get 3 20\n\
@@ -24,42 +34,38 @@ fn two_kinds(buffer: &mut [u8; 64]) {
 
 // The top kind and 8 just fit, or miss by 4; no greatest request; one above every kind; one without kinds; unknown choices.
 fn choices() {
-    show::title(b"choices of create");
-    start::create_with(&mut [170; 20], WITH_KINDS, 1, FIFO_ORDER);
-    start::create_with(&mut [170; 16], WITH_KINDS, 1, FIFO_ORDER);
-    start::create_with(&mut [170; 380], WITH_KINDS, 372, FIFO_ORDER);
-    start::create_with(&mut [170; 376], WITH_KINDS, 372, FIFO_ORDER);
-    start::create_with(&mut [170; 764], WITH_KINDS, 373, FIFO_ORDER);
-    start::create_with(&mut [170; 65536], WITH_KINDS, 49140, FIFO_ORDER);
-    start::create_with(&mut [170; 65536], WITH_KINDS, 49141, FIFO_ORDER);
-    start::create_with(&mut [170; 65536], WITH_KINDS, 201326580, FIFO_ORDER);
-    start::create_with(&mut [170; 65536], WITH_KINDS, 4294967295, FIFO_ORDER);
-    start::create_with(&mut [170; 64], WITH_KINDS, 0, FIFO_ORDER);
-    start::create_with(&mut [170; 64], 0, 1, FIFO_ORDER);
-    start::create_with(&mut [170; 64], 2, 0, FIFO_ORDER);
-    start::create_with(&mut [170; 64], 65535, 20, FIFO_ORDER);
+    show::title("choices of create");
+    start::create_with(&mut [170; 20], rounded(WITH_KINDS, 1));
+    start::create_with(&mut [170; 16], rounded(WITH_KINDS, 1));
+    start::create_with(&mut [170; 380], rounded(WITH_KINDS, 372));
+    start::create_with(&mut [170; 376], rounded(WITH_KINDS, 372));
+    start::create_with(&mut [170; 764], rounded(WITH_KINDS, 373));
+    start::create_with(&mut [170; 65536], rounded(WITH_KINDS, 49140));
+    start::create_with(&mut [170; 65536], rounded(WITH_KINDS, 49141));
+    start::create_with(&mut [170; 65536], rounded(WITH_KINDS, 201326580));
+    start::create_with(&mut [170; 65536], rounded(WITH_KINDS, u32::MAX));
+    start::create_with(&mut [170; 64], rounded(WITH_KINDS, 0));
+    start::create_with(&mut [170; 64], rounded(0, 1));
+    start::create_with(&mut [170; 64], rounded(2, 0));
+    start::create_with(&mut [170; 64], rounded(u16::MAX, 20));
 }
 
 // A queue that keeps what create would refuse: a choice of 1 without a greatest request.
-fn spoiled(buffer: &mut [u8; 64]) {
-    show::title(b"a choice without a greatest request");
-    let fresh = start::create_with(buffer, WITH_KINDS, 20, FIFO_ORDER);
-    let entries = fresh.entries;
+fn spoiled() {
+    show::title("a choice without a greatest request");
+    let mut buffer = [170; 64];
+    let fresh = start::create_with(&mut buffer, rounded(WITH_KINDS, 20));
     refusals::all_calls(
-        buffer,
+        &mut buffer,
         Queue {
-            attributes: Attributes {
-                kinds: WITH_KINDS,
-                order: FIFO_ORDER,
-                greatest: 0,
-            },
-            entries: entries,
+            attributes: rounded(WITH_KINDS, 0),
+            ..fresh
         },
     );
 }
 
 pub fn run() {
-    two_kinds(&mut [170; 64]);
+    two_kinds();
     choices();
-    spoiled(&mut [170; 64]);
+    spoiled();
 }

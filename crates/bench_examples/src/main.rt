@@ -1,4 +1,5 @@
-// The bench examples of document 01, size kinds and priorities, run by the proved calls. Each call is written with what it answers; the file `stdout` has what document 01 expects.
+// The examples of the pool's calls, of size kinds and of priorities, run by the proved calls. Each call is written with what it answers; the file
+// `stdout` has what is expected.
 #![tactic(auto)]
 
 mod blocks;

@@ -3,37 +3,28 @@
 use crate::show;
 use log_text::Line;
 use model::Queue;
-use text::words;
-use text::words::Class;
 
 // Answers the queue that the script leaves.
-pub fn run(buffer: &mut [u8], first: Queue, script: &[u8]) -> Queue {
+pub fn run(buffer: &mut [u8], first: Queue, script: &str) -> Queue {
     let mut queue = first;
-    let mut at: usize = 0;
-    while at < script.len() {
-        let end = words::span_end(script, at, Class::Line);
-        queue = step(buffer, queue, &script[at..end]);
-        if script.len() <= end {
-            break;
-        }
-        at = end + 1;
+    for line in script.lines() {
+        queue = step(buffer, queue, line);
     }
     queue
 }
 
-fn step(buffer: &mut [u8], queue: Queue, line: &[u8]) -> Queue {
-    if words::is_same(line, b"show") {
+fn step(buffer: &mut [u8], queue: Queue, line: &str) -> Queue {
+    if line == "show" {
         show::state(buffer, queue);
         return queue;
     }
     show::text(line);
-    if words::is_same(line, b"inquire") {
+    if line == "inquire" {
         show::totals(pool::inquire(buffer, queue));
         return queue;
     }
-    let said = log_line::read_line(line, true);
-    let Line::Call(made) = said else {
-        show::text(b"\n");
+    let Ok(Line::Call(made)) = log_line::read_line(line.as_bytes(), true) else {
+        show::text("\n");
         return queue;
     };
     show::told(player::call(buffer, queue, made))

@@ -1,150 +1,143 @@
 // What is written: numbers, woken tasks, queues, block lists and bytes.
 use layout::header;
-use model::{Answer, Entry, FOREVER, LOWEST_PRIORITY, Queue, TASKS, Totals, Woken};
+use model::{Answer, Attributes, Entry, FOREVER, LOWEST_PRIORITY, Queue, Totals, Woken};
 
-pub fn text(s: &[u8]) {
-    io::write_all(1, s);
+pub fn text(s: &str) {
+    io::write_all(1, s.as_bytes());
 }
 
-pub fn title(s: &[u8]) {
-    text(b"# ");
+pub fn title(s: &str) {
+    text("# ");
     text(s);
-    text(b"\n");
+    text("\n");
+}
+
+fn decimal(n: u32) {
+    io::print_decimal(1, u64::from(n));
 }
 
 pub fn number(n: usize) {
-    text(b" ");
+    text(" ");
     io::print_decimal(1, n as u64);
 }
 
-pub fn signed(v: i32) {
-    if v < 0 {
-        text(b" -");
-        io::print_decimal(1, (-(v as i64)) as u64);
-    } else {
-        number(v as usize);
-    }
+pub fn signed(value: i32) {
+    text(if value < 0 { " -" } else { " " });
+    decimal(value.unsigned_abs());
 }
 
 // An unused place is not written, here and in the queue.
-fn woken(w: Woken) {
-    if w.task != 0 {
-        text(b"w");
-        number(w.task as usize);
-        signed(w.code);
-        number(w.offset.0);
-        text(b"\n");
+fn woken(woken: &Woken) {
+    if woken.task != 0 {
+        text("w ");
+        decimal(woken.task);
+        signed(woken.code);
+        number(woken.offset.0);
+        text("\n");
     }
 }
 
 // The rest of a call's line, `: code offset`, and a line `w task code offset` for each woken task. Answers the queue.
-pub fn told(a: Answer) -> Queue {
-    text(b":");
-    signed(a.code);
-    number(a.offset.0);
-    text(b"\n");
-    let list = a.woken;
-    for i in 0..TASKS {
-        woken(list[i]);
+pub fn told(answer: Answer) -> Queue {
+    text(":");
+    signed(answer.code);
+    number(answer.offset.0);
+    text("\n");
+    for place in &answer.woken {
+        woken(place);
     }
-    a.queue
+    answer.queue
 }
 
 // The rest of the line of an inquire.
-pub fn totals(t: Totals) {
-    text(b":");
-    signed(t.code);
-    number(t.sum);
-    number(t.greatest);
-    number(t.head as usize);
-    text(b"\n");
+pub fn totals(totals: Totals) {
+    text(":");
+    signed(totals.code);
+    number(totals.sum);
+    number(totals.greatest);
+    text(" ");
+    decimal(totals.head);
+    text("\n");
 }
 
 // The task, the size as asked and the ticks left, and the priority where it is not the lowest.
-fn entry(e: Entry) {
-    if e.task != 0 {
-        number(e.task as usize);
-        text(b":");
-        io::print_decimal(1, e.size as u64);
-        text(b":");
-        if e.left == FOREVER {
-            text(b"forever");
-        } else {
-            io::print_decimal(1, e.left as u64);
-        }
-        if e.priority as u32 != LOWEST_PRIORITY {
-            text(b" by");
-            number(e.priority as usize);
-        }
+fn entry(entry: &Entry) {
+    if entry.task == 0 {
+        return;
+    }
+    number(usize::from(entry.task));
+    text(":");
+    decimal(entry.size);
+    text(":");
+    if entry.left == FOREVER {
+        text("forever");
+    } else {
+        decimal(entry.left);
+    }
+    if u32::from(entry.priority) != LOWEST_PRIORITY {
+        text(" by");
+        number(usize::from(entry.priority));
     }
 }
 
-// The choice of rounding, the greatest request and the order that the queue keeps.
-pub fn kept(q: Queue) {
-    let attributes = q.attributes;
-    text(b"kept");
-    number(attributes.kinds as usize);
-    number(attributes.greatest as usize);
-    number(attributes.order as usize);
-    text(b"\n");
+// The choice of rounding, the greatest request and the order.
+pub fn attributes(attributes: Attributes) {
+    number(usize::from(attributes.kinds));
+    text(" ");
+    decimal(attributes.greatest);
+    number(usize::from(attributes.order));
 }
 
-pub fn queue(q: Queue) {
-    let entries = q.entries;
-    for i in 0..TASKS {
-        entry(entries[i]);
+// What the queue keeps of them.
+pub fn kept(queue: Queue) {
+    text("kept");
+    attributes(queue.attributes);
+    text("\n");
+}
+
+pub fn queue(queue: Queue) {
+    for place in &queue.entries {
+        entry(place);
     }
 }
 
 // The size and the owner of each block, from 0 on.
 fn blocks(pool: &[u8]) {
-    let n = pool.len();
-    let mut at: usize = 0;
-    while 8 <= n - at {
-        let size = header::read_u32(pool, at);
-        let owner = header::read_u32(pool, at + 4);
+    let mut rest = pool;
+    while 8 <= rest.len() {
+        let size = header::read_u32(rest, 0);
         number(size);
-        text(b":");
-        io::print_decimal(1, owner as u64);
-        if size < 8 {
+        text(":");
+        io::print_decimal(1, header::read_u32(rest, 4) as u64);
+        if size < 8 || rest.len() < size {
             return;
         }
-        if n - at < size {
-            return;
-        }
-        at += size;
+        rest = &rest[size..];
     }
-}
-
-fn wide(x: u8) -> u64 {
-    x as u64
 }
 
 // Bytes in hexadecimal, four to a group.
 fn bytes(pool: &[u8]) {
-    let mut i: usize = 0;
-    while i < pool.len() {
+    for (i, byte) in pool.iter().enumerate() {
         if i % 4 == 0 {
-            text(b" ");
+            text(" ");
         }
-        io::print_hex(1, wide(pool[i]), 2);
-        i += 1;
+        io::print_hex(1, u64::from(*byte), 2);
     }
 }
 
 // The first 16 bytes, or all where there are fewer.
 pub fn first_bytes(pool: &[u8]) {
-    let n = io::count(16, pool);
-    bytes(&pool[..n]);
+    bytes(&pool[..pool.len().min(16)]);
 }
 
 // The block list, the queue and all bytes.
-pub fn state(pool: &[u8], q: Queue) {
-    text(b"blocks");
+pub fn state(pool: &[u8], kept: Queue) {
+    text("blocks");
     blocks(pool);
-    text(b"\nqueue");
-    queue(q);
-    text(b"\nbytes");
+    text("\nqueue");
+    queue(kept);
+    text("\nbytes");
     bytes(pool);
-    text(b"\n");
+    text("\n");
 }

@@ -1,13 +1,13 @@
-// Who is served, and when: several waiters at once, the order of the queue, time limits, and the calls of document 01's log.
+// Who is served, and when: several waiters at once, the order of the queue, time limits, and the calls of a log.
 use crate::start::Example;
 use crate::{script, show, start};
 
 // Task 3 asks for 1 byte and has 4.
 fn release_wakes_three() {
-    show::title(b"a release wakes three");
+    show::title("a release wakes three");
     start::fresh(
         &mut [170; 64],
-        b"get 1 56\nget 2 4\nget 3 1 limit 7\nget 4 8\nrelease 8\nshow\n",
+        "get 1 56\nget 2 4\nget 3 1 limit 7\nget 4 8\nrelease 8\nshow\n",
     );
 }
 
@@ -15,8 +15,7 @@ fn release_wakes_three() {
 fn cancel_wakes_two() {
     start::after(
         Example::B,
-        &mut [170; 64],
-        b"# a cancel wakes two behind it, after b\n\
+        "# a cancel wakes two behind it, after b\n\
         get 2 40\n\
         get 3 4\n\
         get 4 4 limit 9\n\
@@ -30,8 +29,7 @@ fn cancel_wakes_two() {
 fn head_first() {
     start::after(
         Example::C,
-        &mut [170; 64],
-        b"# nobody is served past the head, after c\n\
+        "# nobody is served past the head, after c\n\
         get 3 40\n\
         get 4 4\n\
         release 28\n\
@@ -43,8 +41,7 @@ fn head_first() {
 fn ticks() {
     start::after(
         Example::C,
-        &mut [170; 64],
-        b"# expiries come before service, after c\n\
+        "# expiries come before service, after c\n\
         get 3 12 limit 2\n\
         get 4 4\n\
         get 5 50 limit 2\n\
@@ -56,14 +53,15 @@ fn ticks() {
     );
 }
 
-fn limits(buffer: &mut [u8; 64]) {
-    show::title(b"limits, after c");
-    let c = start::c(buffer);
-    let refused = start::get_below(buffer, c, 3, 12);
+fn limits() {
+    show::title("limits, after c");
+    let mut buffer = [170; 64];
+    let c = start::c(&mut buffer);
+    let refused = start::get_below(&mut buffer, c, 3, 12);
     script::run(
-        buffer,
+        &mut buffer,
         refused,
-        b"get 3 12 limit 0\n\
+        "get 3 12 limit 0\n\
         get 3 12\n\
         get 4 12 limit 1\n\
         get 5 12 limit 2147483647\n\
@@ -74,10 +72,10 @@ fn limits(buffer: &mut [u8; 64]) {
 }
 
 fn log() {
-    show::title(b"the calls of the log");
+    show::title("the calls of the log");
     start::fresh(
         &mut [170; 64],
-        b"get 1 10\nget 2 20\npoll 5 12\nrelease 8\nget 3 24\nrelease 28\nshow\n",
+        "get 1 10\nget 2 20\npoll 5 12\nrelease 8\nget 3 24\nrelease 28\nshow\n",
     );
 }
 
@@ -86,11 +84,10 @@ pub fn run() {
     cancel_wakes_two();
     head_first();
     ticks();
-    limits(&mut [170; 64]);
+    limits();
     start::after(
         Example::B,
-        &mut [170; 64],
-        b"# polls that are granted, after b\npoll 2 20\nget 5 4 limit 0\nshow\n",
+        "# polls that are granted, after b\npoll 2 20\nget 5 4 limit 0\nshow\n",
     );
     log();
 }

@@ -3,31 +3,26 @@
 #![tactic(auto)]
 
 use model::{Attributes, FIFO_ORDER};
-use numbers::Number;
 
 // The choice in 16 bits; one that has more is as unknown as their greatest.
 fn choice(number: u32) -> u16 {
-    if 65535 < number {
-        return 65535;
-    }
-    number as u16
+    u16::try_from(number).unwrap_or(u16::MAX)
 }
 
 fn replay(input: &[u8]) {
-    let first = numbers::read_number(input);
-    let Number::Value(kinds, after) = first else {
+    let Some(kinds) = numbers::read_number(input) else {
         return;
     };
-    let second = numbers::read_number(&input[after..]);
-    let Number::Value(greatest, size) = second else {
+    let input = &input[kinds.size..];
+    let Some(greatest) = numbers::read_number(input) else {
         return;
     };
     stages::replay(
-        &input[after + size..],
+        &input[greatest.size..],
         Attributes {
-            kinds: choice(kinds),
+            kinds: choice(kinds.value),
             order: FIFO_ORDER,
-            greatest: greatest,
+            greatest: greatest.value,
         },
     );
 }

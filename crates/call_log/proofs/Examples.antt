@@ -1,4 +1,4 @@
--- The log of document 01 read one record after another, and bytes that are no record, by computation. Assumes nothing.
+-- The log of the examples read one record after another, and bytes that are no record, by computation. Assumes nothing.
 use Prim.Native.Nat.{ℕ, zero, suc}
 use mathlib.Core.Path.{◌≡◌, refl}
 use mathlib.Core.List.{List, [], ◌∷◌, map}
@@ -9,18 +9,16 @@ use Rattle.model.specs.Limits.{fifo_order, priority_order}
 use Rattle.numbers.specs.Number.{decode, groups}
 use Rattle.call_log.specs.declared.Record.{Record}
 use Rattle.call_log.specs.declared.Record.TheVariants.{Get, Poll, Release, Cancel, Tick, PriorityGet, PriorityPoll}
-use Rattle.call_log.specs.declared.Start.TheVariants as start
-use Rattle.call_log.specs.declared.Read.{Read}
-use Rattle.call_log.specs.declared.Read.TheVariants.{Taken, End, Bad}
+use Rattle.std.specs.Prelude.{Some, None, Ok, Err}
 use Rattle.call_log.specs.Fields.{read_fields, encode_fields, fields_length}
-use Rattle.call_log.specs.Record.{limit_of, limit_field, fields_of, record_of, encode_record}
-use Rattle.call_log.specs.Log.{records_length, log_length, start_of, records_of, read_log}
+use Rattle.call_log.specs.Record.{limit_of, limit_field, fields_of, Read, taken, end, bad, record_of, encode_record}
+use Rattle.call_log.specs.Log.{records_length, log_length, start, start_of, records_of, read_log}
 
 -- the rest of a log after what was read
 abbrev rest : Read → List ℕ → List ℕ
-rest (Taken r n) s = drop n s
-rest End s = s
-rest Bad s = s
+rest (Ok (Some t)) s = drop t.size s
+rest (Ok None) s = s
+rest (Err e) s = s
 
 -- k answers of the reader one after another
 abbrev answers : ℕ → List ℕ → List Read
@@ -31,48 +29,48 @@ abbrev pub log : List ℕ
 log =
     0x40 ∷ 0x01 ∷ 0x01 ∷ 0x0A ∷ 0x00 ∷ 0x01 ∷ 0x02 ∷ 0x14 ∷ 0x00 ∷ 0x02 ∷ 0x05 ∷ 0x0C ∷ 0x03 ∷ 0x08 ∷ 0x01 ∷ 0x03 ∷ 0x18 ∷ 0x00 ∷ 0x03 ∷ 0x1C ∷ []
 
-log_start : start_of log ≡ start.Taken 64 fifo_order 1
+log_start : start_of log ≡ start 64 fifo_order 1
 unfolding decode start_of
 log_start = refl
 
 log-records : answers 7 (drop 1 log)
-    ≡ Taken (Get 1 10 (negsuc 0)) 4 ∷ Taken (Get 2 20 (negsuc 0)) 4 ∷ Taken (Poll 5 12) 3 ∷ Taken (Release 8) 2 ∷ Taken (Get 3 24 (negsuc 0)) 4
-    ∷ Taken (Release 28) 2 ∷ End ∷ []
+    ≡ taken (Get 1 10 (negsuc 0)) 4 ∷ taken (Get 2 20 (negsuc 0)) 4 ∷ taken (Poll 5 12) 3 ∷ taken (Release 8) 2 ∷ taken (Get 3 24 (negsuc 0)) 4
+    ∷ taken (Release 28) 2 ∷ end ∷ []
 unfolding decode read_fields limit_of record_of
 log-records = refl
 
-cancel-tick : answers 3 (0x04 ∷ 0x03 ∷ 0x05 ∷ []) ≡ Taken (Cancel 3) 2 ∷ Taken Tick 1 ∷ End ∷ []
+cancel-tick : answers 3 (0x04 ∷ 0x03 ∷ 0x05 ∷ []) ≡ taken (Cancel 3) 2 ∷ taken Tick 1 ∷ end ∷ []
 unfolding decode read_fields record_of
 cancel-tick = refl
 
 -- the greatest limit, and one above it
-longest : record_of (0x01 ∷ 0x01 ∷ 0x01 ∷ 0x80 ∷ 0x80 ∷ 0x80 ∷ 0x80 ∷ 0x08 ∷ []) ≡ Taken (Get 1 1 (pos 2147483647)) 8
+longest : record_of (0x01 ∷ 0x01 ∷ 0x01 ∷ 0x80 ∷ 0x80 ∷ 0x80 ∷ 0x80 ∷ 0x08 ∷ []) ≡ taken (Get 1 1 (pos 2147483647)) 8
 unfolding decode read_fields limit_of record_of
 longest = refl
 
-too_long : record_of (0x01 ∷ 0x01 ∷ 0x01 ∷ 0x81 ∷ 0x80 ∷ 0x80 ∷ 0x80 ∷ 0x08 ∷ []) ≡ Bad
+too_long : record_of (0x01 ∷ 0x01 ∷ 0x01 ∷ 0x81 ∷ 0x80 ∷ 0x80 ∷ 0x80 ∷ 0x08 ∷ []) ≡ bad
 unfolding decode read_fields record_of
 too_long = refl
 
 -- a get and a poll with a priority, which may be any number
-with_priority : answers 3 (0x06 ∷ 0x01 ∷ 0x0A ∷ 0x00 ∷ 0x09 ∷ 0x07 ∷ 0x05 ∷ 0x0C ∷ 0x11 ∷ []) ≡ Taken (PriorityGet 1 10 (negsuc 0) 9) 5 ∷ Taken (PriorityPoll 5 12 17) 4 ∷ End ∷ []
+with_priority : answers 3 (0x06 ∷ 0x01 ∷ 0x0A ∷ 0x00 ∷ 0x09 ∷ 0x07 ∷ 0x05 ∷ 0x0C ∷ 0x11 ∷ []) ≡ taken (PriorityGet 1 10 (negsuc 0) 9) 5 ∷ taken (PriorityPoll 5 12 17) 4 ∷ end ∷ []
 unfolding decode read_fields limit_of record_of
 with_priority = refl
 
-priority_too_long : record_of (0x06 ∷ 0x01 ∷ 0x01 ∷ 0x81 ∷ 0x80 ∷ 0x80 ∷ 0x80 ∷ 0x08 ∷ 0x01 ∷ []) ≡ Bad
+priority_too_long : record_of (0x06 ∷ 0x01 ∷ 0x01 ∷ 0x81 ∷ 0x80 ∷ 0x80 ∷ 0x80 ∷ 0x08 ∷ 0x01 ∷ []) ≡ bad
 unfolding decode read_fields record_of
 priority_too_long = refl
 
-priority_cut_off : record_of (0x07 ∷ 0x01 ∷ 0x04 ∷ []) ≡ Bad
+priority_cut_off : record_of (0x07 ∷ 0x01 ∷ 0x04 ∷ []) ≡ bad
 unfolding decode read_fields record_of
 priority_cut_off = refl
 
 -- the mark of the order is no record, and no other number is
-another_kind : map record_of ((0x08 ∷ []) ∷ (0x00 ∷ []) ∷ (0x09 ∷ []) ∷ []) ≡ Bad ∷ Bad ∷ Bad ∷ []
+another_kind : map record_of ((0x08 ∷ []) ∷ (0x00 ∷ []) ∷ (0x09 ∷ []) ∷ []) ≡ bad ∷ bad ∷ bad ∷ []
 unfolding decode read_fields record_of
 another_kind = refl
 
-cut_off : record_of (0x02 ∷ 0x01 ∷ []) ≡ Bad
+cut_off : record_of (0x02 ∷ 0x01 ∷ []) ≡ bad
 unfolding decode read_fields record_of
 cut_off = refl
 

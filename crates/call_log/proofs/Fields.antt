@@ -7,9 +7,9 @@ use native.Mathlib.Nat.{add_assoc}
 use native.Mathlib.Numerals.{add-one}
 use lib.ListN.{length, take, drop, get_or, length-append, length-drop, drop_of_length-le}
 use lib.Seq.{take-add, drop-cons, get_or-drop, drop-append_seam}
+use Rattle.std.specs.Prelude.{Option, Some, None}
 use Rattle.numbers.specs.declared.Number.{Number}
-use Rattle.numbers.specs.declared.Number.TheVariants.{Value, Refused}
-use Rattle.numbers.specs.Number.{Bytes, number_of, encode}
+use Rattle.numbers.specs.Number.{Bytes, number, number_of, encode}
 use Rattle.numbers.proofs.Theorems.{number_encode, encode_number, number_small, number_within, number_five}
 use Rattle.call_log.specs.Fields.{Fields, Fields·read, Fields·refused, before, first, read_fields, encode_fields, fields_length, Small}
 
@@ -55,7 +55,7 @@ no_fields e = let z : ◌≡◌ {A = ℕ} 0 1 = cc in absurd (omega arith)
 pub bytes_drop : (n : ℕ) (s : List ℕ) → Bytes s → Bytes (drop n s)
 bytes_drop n s bs i = rw (get_or-drop n s i 0) (bs (n + i))
 
-pub listed_more : (k : ℕ) (s : List ℕ) (v n : ℕ) (ws : List ℕ) (m : ℕ) → number_of s ≡ Value v n → Listed k (drop n s) ws m
+pub listed_more : (k : ℕ) (s : List ℕ) (v n : ℕ) (ws : List ℕ) (m : ℕ) → number_of s ≡ number v n → Listed k (drop n s) ws m
     → Listed (suc k) s (v ∷ ws) (n + m)
 unfolding encode_fields
 listed_more k s v n ws m e l = record {
@@ -68,7 +68,7 @@ listed_more k s v n ws m e l = record {
 
 module _ (k : ℕ) (s vs : List ℕ) (n : ℕ)
     (ih : (m : ℕ) (ws : List ℕ) (o : ℕ) → read_fields k (drop m s) ≡ Fields·read ws o → Listed k (drop m s) ws o) where
-  listed_rest : (v m : ℕ) (r : Fields) → number_of s ≡ Value v m → read_fields k (drop m s) ≡ r
+  listed_rest : (v m : ℕ) (r : Fields) → number_of s ≡ number v m → read_fields k (drop m s) ≡ r
       → before (v ∷ []) m r ≡ Fields·read vs n → Listed (suc k) s vs n
   listed_rest v m Fields·refused q p e = no_fields e
   listed_rest v m (Fields·read ws o) q p e =
@@ -76,9 +76,9 @@ module _ (k : ℕ) (s vs : List ℕ) (n : ℕ)
       let y : m + o ≡ n = cc in
       rw (← x, ← y) (listed_more k s v m ws o q (ih m ws o p))
 
-  listed_first : (x : Number) → number_of s ≡ x → first x (λ m. read_fields k (drop m s)) ≡ Fields·read vs n → Listed (suc k) s vs n
-  listed_first Refused q e = no_fields e
-  listed_first (Value v m) q e = listed_rest v m (read_fields k (drop m s)) q refl e
+  listed_first : (x : Option Number) → number_of s ≡ x → first x (λ m. read_fields k (drop m s)) ≡ Fields·read vs n → Listed (suc k) s vs n
+  listed_first None q e = no_fields e
+  listed_first (Some x) q e = listed_rest x.value x.size (read_fields k (drop x.size s)) q refl e
 
 -- what is read is what would be written
 pub read_listed : (k : ℕ) (s vs : List ℕ) (n : ℕ) → read_fields k s ≡ Fields·read vs n → Listed k s vs n

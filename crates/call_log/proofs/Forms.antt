@@ -1,38 +1,27 @@
 -- Laws of the kinds of record: a get's limit and its field, a kind's number, and the record made of a kind's fields. Assumes nothing.
-use Prim.Native.Nat.{ℕ, zero, suc, ◌+◌, ◌-◌, ◌<◌, ◌≤◌}
+use Prim.Native.Nat.{ℕ, zero, suc, ◌<◌, ◌≤◌}
 use mathlib.Core.Path.{◌≡◌, refl, sym, ap, ◌∙◌}
-use mathlib.Core.Bool.{true, false}
+use mathlib.Core.Bool.{true}
 use mathlib.Core.List.{List, [], ◌∷◌}
 use mathlib.Core.Logic.{⊎_elim}
 use native.Mathlib.Omega.{arith}
-use native.Mathlib.Numerals.{add-one}
 use mir.Syntax.{w32}
-use mir.Val.{Fits, SFits, to_z, of_z}
+use mir.Val.{SFits, to_z, of_z}
 use mir.ValLaws.{to_z-of_z}
-use lib.Dec.{T}
-use lib.IntN.{ℤ, pos, negsuc, nat_abs}
-use lib.Signed.{lt_z, le_z, non_neg}
+use lib.IntN.{ℤ, pos, negsuc}
+use lib.Signed.{le_z}
 use lib.ListN.{length, take, get_or}
 use borrow.Author.Tests.{le-leb, lt-leb, lt-ltb, ltb-true, eqb-true, ne_eqb}
+use Rattle.std.specs.Prelude.{Some, None}
 use Rattle.numbers.proofs.Decode.{side}
 use Rattle.call_log.specs.declared.Record.{Record}
 use Rattle.call_log.specs.declared.Record.TheVariants.{Get, Poll, Release, Cancel, Tick, PriorityGet, PriorityPoll}
 use Rattle.call_log.specs.declared.Kind.{Kind}
 use Rattle.call_log.specs.declared.Kind.TheVariants as kind
-use Rattle.call_log.specs.declared.Read.{Read}
-use Rattle.call_log.specs.declared.Read.TheVariants.{Taken, Bad}
-use Rattle.call_log.specs.Record.{limit_bound, limit_of, limit_field, is_limit, Limited, fields_of, kind_of, field_count, limited_by, record_from}
+use Rattle.call_log.specs.declared.Taken.{Taken}
+use Rattle.call_log.specs.Record.{limit_bound, limit_of, limit_field, is_limit, Limited, fields_of, kind_of, field_count, taken, bad, limited_by, record_from, read_as}
 
 -- a limit and its field
-pub limit_none : (field : ℕ) → field ≡ 0 → negsuc 0 ≡ limit_of field
-unfolding limit_of
-limit_none field h = rw h
-
-pub limit-some : (field : ℕ) → (field ≡ 0 → ⊥) → pos (field - 1) ≡ limit_of field
-unfolding limit_of
-limit-some zero h = absurd (h refl)
-limit-some (suc n) h = ap pos (omega arith)
-
 pub limit_field_lem : (limit : ℤ) → is_limit limit ≡ true → (limit_of (limit_field limit) ≡ limit) × (limit_field limit ≤ limit_bound)
 unfolding limit_of limit_field
 limit_field_lem (pos n) h = (refl, omega (arith, ltb-true n limit_bound h))
@@ -53,30 +42,11 @@ limit_test (negsuc zero) f = refl
 limit_test (negsuc (suc n)) f =
     rw (to_z-of_z w32 (negsuc (suc n)) f, lt-leb (suc n) 0 (omega arith), ne_eqb (suc n) 0 (λ z. omega arith))
 
-pub field_none : (limit : ℤ) → SFits w32 limit → lt_z (read limit) (pos 0) ≡ true → 0 ≡ limit_field limit
-unfolding limit_field
-field_none (pos n) f t = absurd (omega (arith, ltb-true n 0 (rw (to_z-of_z w32 (pos n) f) at t)))
-field_none (negsuc n) f t = refl
-
-pub record Ticks (limit : ℤ) : Type 0 where
-  pub cast : T (non_neg (read limit)) × Fits w32 (nat_abs (read limit))
-  pub fits : Fits w32 (nat_abs (read limit) + 1)
-  pub field : nat_abs (read limit) + 1 ≡ limit_field limit
-
-pub field_some : (limit : ℤ) → SFits w32 limit → lt_z (read limit) (pos 0) ≡ false → Ticks limit
-unfolding limit_field
-field_some (pos n) f t =
-    let l : n < limit_bound = f.sfits in
-    let a : read (pos n) ≡ pos n = to_z-of_z w32 (pos n) f in
-    record { cast = rw a (tt, omega arith); fits = rw a (omega arith); field = rw a (add-one n) }
-field_some (negsuc n) f t =
-    let a : true ≡ false = rw (to_z-of_z w32 (negsuc n) f) at t in let z : ◌≡◌ {A = ℕ} 0 1 = cc in absurd (omega arith)
-
 -- a record with a limit field, by whether that is too great
-pub limit-within : (limit : ℕ) (x : Read) → limit ≤ limit_bound → x ≡ limited_by limit x
+pub limit-within : (limit : ℕ) (x : Record) → limit ≤ limit_bound → Some x ≡ limited_by limit x
 limit-within limit x h = rw (le-leb limit limit_bound h)
 
-pub limit_over : (limit : ℕ) (x : Read) → limit_bound < limit → Bad ≡ limited_by limit x
+pub limit_over : (limit : ℕ) (x : Record) → limit_bound < limit → None ≡ limited_by limit x
 limit_over limit x h = rw (lt-leb limit limit_bound h)
 
 -- the numbers from 1 to 7 are those of the kinds that there are
@@ -101,7 +71,14 @@ count-few kind.PriorityGet = omega arith
 count-few kind.PriorityPoll = omega arith
 count-few kind.Unknown = omega arith
 
-pub not_taken : {A : Type 0} {r : Record} {n : ℕ} → Bad ≡ Taken r n → A
+-- equal answers of the reader have one record and one place
+pub taken_record : {r x : Record} {n m : ℕ} → taken r n ≡ taken x m → r ≡ x
+taken_record {r} {x} {n} {m} e = let p : ◌≡◌ {A = Taken} (record { «record» = r; size = n }) (record { «record» = x; size = m }) = cc in ap (λ (t : Taken). t.«record») p
+
+pub taken_size : {r x : Record} {n m : ℕ} → taken r n ≡ taken x m → n ≡ m
+taken_size {r} {x} {n} {m} e = let p : ◌≡◌ {A = Taken} (record { «record» = r; size = n }) (record { «record» = x; size = m }) = cc in ap (λ (t : Taken). t.size) p
+
+pub not_taken : {A : Type 0} {r : Record} {n : ℕ} → bad ≡ taken r n → A
 not_taken e = let z : ◌≡◌ {A = ℕ} 0 1 = cc in absurd (omega arith)
 
 -- the numbers of the record r that was made of a kind's number and of its fields among a, b, c and d
@@ -113,18 +90,18 @@ pub record Made (number a b c d after : ℕ) (r : Record) (n : ℕ) : Type 0 whe
 
 module _ (a b c d after : ℕ) (r : Record) (n : ℕ) where
   made_as : (number : ℕ) (x : Record) → fields_of x ≡ number ∷ take (field_count (kind_of number)) (a ∷ b ∷ c ∷ d ∷ []) → Limited x → number ≤ 7
-      → Taken x after ≡ Taken r n → Made number a b c d after r n
-  made_as number x f l k e = let q : x ≡ r = cc in rw (← q) (record { numbers = f; limited = l; known = k; place = cc })
+      → taken x after ≡ taken r n → Made number a b c d after r n
+  made_as number x f l k e = rw (← taken_record e) (record { numbers = f; limited = l; known = k; place = taken_size e })
 
   -- of a record x with a limit field
-  made-limited : (number : ℕ) (x : Record) → (c ≤ limit_bound → Taken x after ≡ Taken r n → Made number a b c d after r n) → limited_by c (Taken x after) ≡ Taken r n → Made number a b c d after r n
+  made-limited : (number : ℕ) (x : Record) → (c ≤ limit_bound → taken x after ≡ taken r n → Made number a b c d after r n) → read_as after (limited_by c x) ≡ taken r n → Made number a b c d after r n
   made-limited number x within e =
       ⊎_elim
-      (λ h. not_taken (limit_over c (Taken x after) h ∙ e))
-      (λ h. within h (limit-within c (Taken x after) h ∙ e))
+      (λ h. not_taken (ap (read_as after) (limit_over c x h) ∙ e))
+      (λ h. within h (ap (read_as after) (limit-within c x h) ∙ e))
       (side limit_bound c)
 
-  pub made_inv : (number : ℕ) → record_from (kind_of number) a b c d after ≡ Taken r n → Made number a b c d after r n
+  pub made_inv : (number : ℕ) → read_as after (record_from (kind_of number) a b c d) ≡ taken r n → Made number a b c d after r n
   unfolding fields_of
   made_inv zero e = not_taken e
   made_inv (suc zero) e =

@@ -9,11 +9,10 @@ use lib.Seq.{drop-nil, drop-append_seam}
 use Rattle.numbers.specs.Number.{Bytes}
 use Rattle.call_log.specs.declared.Record.{Record}
 use Rattle.call_log.specs.declared.Start.{Start}
-use Rattle.call_log.specs.declared.Start.TheVariants as start
-use Rattle.call_log.specs.declared.Read.{Read}
-use Rattle.call_log.specs.declared.Read.TheVariants.{Taken, End, Bad}
-use Rattle.call_log.specs.Record.{fields_of, record_of, encode_record}
-use Rattle.call_log.specs.Log.{encode_records, records_length, AllExpressible, in_front, start_of, records_of, Log, with_start, read_log}
+use Rattle.std.specs.Prelude as rust
+use Rattle.std.specs.Prelude.{Some, None, Ok, Err}
+use Rattle.call_log.specs.Record.{fields_of, Read, taken, record_of, encode_record}
+use Rattle.call_log.specs.Log.{encode_records, records_length, AllExpressible, in_front, start, start_of, records_of, Log, with_start, read_log}
 use Rattle.call_log.proofs.Fields.{length_fields, bytes_drop}
 use Rattle.call_log.proofs.Theorems.{record-encode, encode-record, record_expressible, record-length, record_end, encode-record-length}
 
@@ -56,7 +55,7 @@ records_skip zero s = refl
 records_skip (suc n) [] = refl
 records_skip (suc n) (b ∷ s) = records_skip n s
 
-pub records_taken : (s : List ℕ) (r : Record) (n : ℕ) → record_of s ≡ Taken r n → records_of 0 s ≡ in_front (some r) (records_of 0 (drop n s))
+pub records_taken : (s : List ℕ) (r : Record) (n : ℕ) → record_of s ≡ taken r n → records_of 0 s ≡ in_front (some r) (records_of 0 (drop n s))
 unfolding records_of
 records_taken [] r n e = absurd (omega (arith, record-length [] r n e))
 records_taken (b ∷ s) r zero e = absurd (omega (arith, record-length (b ∷ s) r 0 e))
@@ -66,17 +65,21 @@ records_taken (b ∷ s) r (suc n) e =
 
 -- induction over the records of a log that is read to its clean end
 module _ (P : List ℕ → List Record → Type 0) (end : P [] [])
-    (next : (s : List ℕ) (r : Record) (n : ℕ) (rs : List Record) → record_of s ≡ Taken r n → P (drop n s) rs → P s (r ∷ rs)) where
-  at-record : (b : ℕ) (s : List ℕ) (rs : List Record) → ((k : ℕ) (ts : List Record) → records_of k s ≡ some ts → P (drop k s) ts)
-      → (x : Read) → record_of (b ∷ s) ≡ x → records_of 0 (b ∷ s) ≡ some rs → P (b ∷ s) rs
-  unfolding records_of
-  at-record b s rs ih Bad q e = no_some (rw (q, records_of) at e)
-  at-record b s rs ih End q e = absurd (omega (arith, ap length (record_end (b ∷ s) q)))
-  at-record b s rs ih (Taken r zero) q e = absurd (omega (arith, record-length (b ∷ s) r 0 q))
-  at-record b s rs ih (Taken r (suc n)) q e =
+    (next : (s : List ℕ) (r : Record) (n : ℕ) (rs : List Record) → record_of s ≡ taken r n → P (drop n s) rs → P s (r ∷ rs)) where
+  at_size : (b : ℕ) (s : List ℕ) (rs : List Record) → ((k : ℕ) (ts : List Record) → records_of k s ≡ some ts → P (drop k s) ts)
+      → (r : Record) (n : ℕ) → record_of (b ∷ s) ≡ taken r n → records_of 0 (b ∷ s) ≡ some rs → P (b ∷ s) rs
+  at_size b s rs ih r zero q e = absurd (omega (arith, record-length (b ∷ s) r 0 q))
+  at_size b s rs ih r (suc n) q e =
       let f = front (some r) (records_of 0 (drop n s)) rs (sym (records_taken (b ∷ s) r (suc n) q) ∙ e) in
       let same : r ≡ f.head = cc f.first in
       rw (← f.whole, ← same) (next (b ∷ s) r (suc n) f.tail q (ih n f.tail (records_skip n s ∙ f.rest)))
+
+  at-record : (b : ℕ) (s : List ℕ) (rs : List Record) → ((k : ℕ) (ts : List Record) → records_of k s ≡ some ts → P (drop k s) ts)
+      → (x : Read) → record_of (b ∷ s) ≡ x → records_of 0 (b ∷ s) ≡ some rs → P (b ∷ s) rs
+  unfolding records_of
+  at-record b s rs ih (Err x) q e = no_some (rw (q, records_of) at e)
+  at-record b s rs ih (Ok None) q e = absurd (omega (arith, ap length (record_end (b ∷ s) q)))
+  at-record b s rs ih (Ok (Some t)) q e = at_size b s rs ih t.«record» t.size q e
 
   pub records_ind : (k : ℕ) (s : List ℕ) (rs : List Record) → records_of k s ≡ some rs → P (drop k s) rs
   unfolding records_of
@@ -112,20 +115,20 @@ records_expressible = records_ind (λ s rs. AllExpressible rs) tt (λ s r n rs e
 
 pub record Whole (s : List ℕ) (l : Log) : Type 0 where
   pub place : ℕ
-  pub first : start_of s ≡ start.Taken l.long l.order place
+  pub first : start_of s ≡ start l.long l.order place
   pub rest : records_of place s ≡ some l.records
 
 module _ (s : List ℕ) (l : Log) where
-  whole-records : (n order place : ℕ) (x : Option (List Record)) → start_of s ≡ start.Taken n order place → records_of place s ≡ x → with_start n order x ≡ some l → Whole s l
+  whole-records : (n order place : ℕ) (x : Option (List Record)) → start_of s ≡ start n order place → records_of place s ≡ x → with_start n order x ≡ some l → Whole s l
   whole-records n order place none q p e = no_some e
   whole-records n order place (some rs) q p e =
       let same : record { long = n; order = order; records = rs } ≡ l = cc in
       record { place = place; first = q ∙ rw (← same); rest = p ∙ rw (← same) }
 
-  whole_start : (x : Start) → start_of s ≡ x → read_log s ≡ some l → Whole s l
+  whole_start : (x : rust.Option Start) → start_of s ≡ x → read_log s ≡ some l → Whole s l
   unfolding read_log
-  whole_start start.Bad q e = no_some (rw (q, read_log) at e)
-  whole_start (start.Taken n order place) q e = whole-records n order place (records_of place s) q refl (rw (q, read_log) at e)
+  whole_start None q e = no_some (rw (q, read_log) at e)
+  whole_start (Some x) q e = whole-records x.length x.order x.size (records_of x.size s) q refl (rw (q, read_log) at e)
 
   pub whole : read_log s ≡ some l → Whole s l
   whole = whole_start (start_of s) refl

@@ -7,20 +7,19 @@ use lib.ListN.{length, take}
 use Rattle.numbers.specs.Number.{Bytes}
 use Rattle.numbers.proofs.Theorems.{number_one}
 use Rattle.call_log.specs.declared.Record.{Record}
-use Rattle.call_log.specs.declared.Read.TheVariants.{Taken, End}
-use Rattle.call_log.specs.Record.{kind_of, record_of, encode_record, Expressible}
+use Rattle.call_log.specs.Record.{kind_of, taken, end, record_of, encode_record, Expressible}
 use Rattle.call_log.proofs.Forms.{count-few}
 use Rattle.call_log.proofs.Records.{record_read, source, source_listed, end_none}
 
 -- what is written is read back, whatever follows
-pub record-encode : (r : Record) (rest : List ℕ) → Expressible r → record_of (encode_record r ++ rest) ≡ Taken r (length (encode_record r))
+pub record-encode : (r : Record) (rest : List ℕ) → Expressible r → record_of (encode_record r ++ rest) ≡ taken r (length (encode_record r))
 record-encode = record_read
 
 -- the clean end is told only where nothing is left
-pub record_end : (s : List ℕ) → record_of s ≡ End → s ≡ []
+pub record_end : (s : List ℕ) → record_of s ≡ end → s ≡ []
 record_end = end_none
 
-module _ (s : List ℕ) (r : Record) (n : ℕ) (e : record_of s ≡ Taken r n) where
+module _ (s : List ℕ) (r : Record) (n : ℕ) (e : record_of s ≡ taken r n) where
   -- what is read is what would be written
   pub encode-record : Bytes s → take n s ≡ encode_record r
   encode-record = (source_listed (source s r n e)).bytes

@@ -1,7 +1,6 @@
 -- Several numbers one after another, read and written.
-use Rattle.std.specs.Prelude.{ℕ, zero, suc, ◌+◌, ◌<◌, List, [], ◌∷◌, ◌++◌, length, drop}
+use Rattle.std.specs.Prelude.{ℕ, zero, suc, ◌+◌, ◌<◌, List, [], ◌∷◌, ◌++◌, length, drop, Option, Some, None}
 use Rattle.numbers.specs.declared.Number.{Number}
-use Rattle.numbers.specs.declared.Number.TheVariants.{Value, Refused}
 use Rattle.numbers.specs.Number.{number_of, encode, number_bound}
 
 -- the numbers that were read, with the place after the last, or that one of them is refused
@@ -15,9 +14,9 @@ before vs m (Fields·read ws n) = Fields·read (vs ++ ws) (m + n)
 before vs m Fields·refused = Fields·refused
 
 -- a number of n bytes, and the others behind them
-abbrev pub first : Number → (ℕ → Fields) → Fields
-first (Value v n) rest = before (v ∷ []) n (rest n)
-first Refused rest = Fields·refused
+abbrev pub first : Option Number → (ℕ → Fields) → Fields
+first (Some x) rest = before (x.value ∷ []) x.size (rest x.size)
+first None rest = Fields·refused
 
 -- the first k numbers of a list of bytes
 unfoldable pub read_fields : ℕ → List ℕ → Fields

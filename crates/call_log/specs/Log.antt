@@ -1,14 +1,12 @@
 -- A whole log: the pool's length and order and the records, in bytes, and how they are read from it.
-use Rattle.std.specs.Prelude.{ℕ, zero, suc, ◌+◌, ◌-◌, List, [], ◌∷◌, ◌++◌, cond, eqb, length, drop}
-use Rattle.std.proofs.Math.Option.{Option, none, some}
+use Rattle.std.specs.Prelude.{ℕ, zero, suc, ◌+◌, ◌-◌, List, [], ◌∷◌, ◌++◌, cond, eqb, length, drop, Option, Some, None, Ok, Err}
+use Rattle.std.proofs.Math.Option as maybe
+use Rattle.std.proofs.Math.Option.{none, some}
 use Rattle.model.specs.Limits.{fifo_order, priority_order}
 use Rattle.numbers.specs.declared.Number.{Number}
-use Rattle.numbers.specs.declared.Number.TheVariants.{Value, Refused}
 use Rattle.numbers.specs.Number.{number_of, encode}
 use Rattle.call_log.specs.declared.Record.{Record}
 use Rattle.call_log.specs.declared.Start.{Start}
-use Rattle.call_log.specs.declared.Start.TheVariants as start
-use Rattle.call_log.specs.declared.Read.TheVariants.{Taken, End, Bad}
 use Rattle.call_log.specs.Fields.{fields_length}
 use Rattle.call_log.specs.Record.{fields_of, record_of, encode_record, Expressible}
 
@@ -53,31 +51,35 @@ AllExpressible (r ∷ rs) = Expressible r × AllExpressible rs
 
 -- ---- the start of a log that is read
 
--- the order, by the number that follows the pool's length, and the place behind both
-abbrev pub order_after : ℕ → ℕ → Number → Start
-order_after n size (Value v k) = cond (eqb v order_mark) (start.Taken n priority_order (size + k)) (start.Taken n fifo_order size)
-order_after n size Refused = start.Taken n fifo_order size
+-- the pool's length n and order, and the place behind both
+abbrev pub start : ℕ → ℕ → ℕ → Option Start
+start n order size = Some (record { length = n; order = order; size = size })
 
-abbrev pub after_length : Number → List ℕ → Start
-after_length (Value n size) s = order_after n size (number_of (drop size s))
-after_length Refused s = start.Bad
+-- the same by the number that follows the pool's length
+abbrev pub order_after : ℕ → ℕ → Option Number → Option Start
+order_after n size (Some mark) = cond (eqb mark.value order_mark) (start n priority_order (size + mark.size)) (start n fifo_order size)
+order_after n size None = start n fifo_order size
 
-unfoldable pub start_of : List ℕ → Start
+abbrev pub after_length : Option Number → List ℕ → Option Start
+after_length (Some x) s = order_after x.value x.size (number_of (drop x.size s))
+after_length None s = None
+
+unfoldable pub start_of : List ℕ → Option Start
 start_of s = after_length (number_of s) s
 
 -- ---- a log that is read whole
 
 -- a record in front of others, where there are both
-abbrev pub in_front : Option Record → Option (List Record) → Option (List Record)
+abbrev pub in_front : maybe.Option Record → maybe.Option (List Record) → maybe.Option (List Record)
 in_front none rs = none
 in_front (some r) none = none
 in_front (some r) (some rs) = some (r ∷ rs)
 
 -- the records of the rest of a log, one after another to the clean end; none where one is bad. Its first `skip` bytes are passed over
-unfoldable pub records_of : (skip : ℕ) → List ℕ → Option (List Record)
+unfoldable pub records_of : (skip : ℕ) → List ℕ → maybe.Option (List Record)
 records_of skip [] = some []
 records_of (suc n) (b ∷ s) = records_of n s
-records_of zero (b ∷ s) = elim (record_of (b ∷ s)) [ Taken r n ↦ in_front (some r) (records_of (n - 1) s) | End ↦ some [] | Bad ↦ none ]
+records_of zero (b ∷ s) = elim (record_of (b ∷ s)) [ Ok (Some t) ↦ in_front (some t.«record») (records_of (t.size - 1) s) | Ok None ↦ some [] | Err e ↦ none ]
 
 -- the pool's length and order and the records that a log holds
 pub record Log : Type 0 where
@@ -89,10 +91,10 @@ pub record Log : Type 0 where
 abbrev pub bytes_of : Log → List ℕ
 bytes_of l = log_of l.long l.order l.records
 
-abbrev pub with_start : ℕ → ℕ → Option (List Record) → Option Log
+abbrev pub with_start : ℕ → ℕ → maybe.Option (List Record) → maybe.Option Log
 with_start n order none = none
 with_start n order (some rs) = some (record { long = n; order = order; records = rs })
 
 -- what the reader finds in a log that it takes whole, to the clean end
-unfoldable pub read_log : List ℕ → Option Log
-read_log s = elim (start_of s) [ start.Taken n order place ↦ with_start n order (records_of place s) | start.Bad ↦ none ]
+unfoldable pub read_log : List ℕ → maybe.Option Log
+read_log s = elim (start_of s) [ Some x ↦ with_start x.length x.order (records_of x.size s) | None ↦ none ]

@@ -1,14 +1,13 @@
 -- The records of a log: the number and the fields of each kind, and how a record is read and written.
-use Rattle.std.specs.Prelude.{ℕ, zero, suc, ℤ, pos, negsuc, ◌≡◌, List, [], ◌∷◌, Bool, true, cond, leb, ltb, eqb, drop, get_or}
+use Rattle.std.specs.Prelude.{ℕ, zero, suc, ℤ, pos, negsuc, ◌≡◌, List, [], ◌∷◌, Bool, true, cond, leb, ltb, eqb, drop, get_or, Option, Some, None, Result, Ok, Err}
 use Rattle.numbers.specs.declared.Number.{Number}
-use Rattle.numbers.specs.declared.Number.TheVariants.{Value, Refused}
 use Rattle.numbers.specs.Number.{number_of}
 use Rattle.call_log.specs.declared.Record.{Record}
 use Rattle.call_log.specs.declared.Record.TheVariants.{Get, Poll, Release, Cancel, Tick, PriorityGet, PriorityPoll}
 use Rattle.call_log.specs.declared.Kind.{Kind}
 use Rattle.call_log.specs.declared.Kind.TheVariants as kind
-use Rattle.call_log.specs.declared.Read.{Read}
-use Rattle.call_log.specs.declared.Read.TheVariants.{Taken, End, Bad}
+use Rattle.call_log.specs.declared.Taken.{Taken}
+use Rattle.call_log.specs.declared.BadRecord.{BadRecord}
 use Rattle.call_log.specs.Fields.{Fields, Fields·read, Fields·refused, before, read_fields, encode_fields, Small}
 
 -- a limit is below 2^31, and its field, the limit plus 1, at most that
@@ -52,34 +51,52 @@ field_count kind.PriorityGet = 4
 field_count kind.PriorityPoll = 3
 field_count kind.Unknown = 0
 
+-- what is read from the rest of a log: a record r of n bytes, the clean end, or bad bytes
+abbrev pub Read : Type 0
+Read = Result (Option Taken) BadRecord
+
+abbrev pub taken : Record → ℕ → Read
+taken r n = Ok (Some (record { «record» = r; size = n }))
+
+abbrev pub end : Read
+end = Ok None
+
+abbrev pub bad : Read
+bad = Err (record {})
+
 -- a record with a limit field, which may be too great
-abbrev pub limited_by : ℕ → Read → Read
-limited_by limit x = cond (leb limit limit_bound) x Bad
+abbrev pub limited_by : ℕ → Record → Option Record
+limited_by limit r = cond (leb limit limit_bound) (Some r) None
 
--- the record of a kind with the fields a, b, c and d, as many as the kind has, and the place after it
-abbrev pub record_from : Kind → ℕ → ℕ → ℕ → ℕ → ℕ → Read
-record_from kind.Get task size limit d n = limited_by limit (Taken (Get task size (limit_of limit)) n)
-record_from kind.Poll task size c d n = Taken (Poll task size) n
-record_from kind.Release offset b c d n = Taken (Release offset) n
-record_from kind.Cancel task b c d n = Taken (Cancel task) n
-record_from kind.Tick a b c d n = Taken Tick n
-record_from kind.PriorityGet task size limit priority n = limited_by limit (Taken (PriorityGet task size (limit_of limit) priority) n)
-record_from kind.PriorityPoll task size priority d n = Taken (PriorityPoll task size priority) n
-record_from kind.Unknown a b c d n = Bad
+-- the record of a kind with the fields a, b, c and d, as many as the kind has
+abbrev pub record_from : Kind → ℕ → ℕ → ℕ → ℕ → Option Record
+record_from kind.Get task size limit d = limited_by limit (Get task size (limit_of limit))
+record_from kind.Poll task size c d = Some (Poll task size)
+record_from kind.Release offset b c d = Some (Release offset)
+record_from kind.Cancel task b c d = Some (Cancel task)
+record_from kind.Tick a b c d = Some Tick
+record_from kind.PriorityGet task size limit priority = limited_by limit (PriorityGet task size (limit_of limit) priority)
+record_from kind.PriorityPoll task size priority d = Some (PriorityPoll task size priority)
+record_from kind.Unknown a b c d = None
 
--- the same of the fields that were read
+-- a record that was made of n bytes
+abbrev pub read_as : ℕ → Option Record → Read
+read_as n (Some r) = taken r n
+read_as n None = bad
+
+-- the record of a kind with the fields that were read
 abbrev pub made : Kind → Fields → Read
-made k (Fields·read fs n) = record_from k (get_or fs 0 0) (get_or fs 1 0) (get_or fs 2 0) (get_or fs 3 0) n
-made k Fields·refused = Bad
+made k (Fields·read fs n) = read_as n (record_from k (get_or fs 0 0) (get_or fs 1 0) (get_or fs 2 0) (get_or fs 3 0))
+made k Fields·refused = bad
 
 -- the record after the number of its kind
-abbrev pub after_kind : Number → List ℕ → Read
-after_kind (Value k n) s = made (kind_of k) (before [] n (read_fields (field_count (kind_of k)) (drop n s)))
-after_kind Refused s = Bad
+abbrev pub after_kind : Option Number → List ℕ → Read
+after_kind (Some x) s = made (kind_of x.value) (before [] x.size (read_fields (field_count (kind_of x.value)) (drop x.size s)))
+after_kind None s = bad
 
 -- the record at the start of the rest of a log
 unfoldable pub record_of : List ℕ → Read
-record_of [] = End
+record_of [] = end
 record_of (b ∷ s) = after_kind (number_of (b ∷ s)) (b ∷ s)
 
 -- a record in bytes

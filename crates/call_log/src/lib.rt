@@ -1,14 +1,14 @@
 // The log of calls, first the pool's length and order, then records: how it is read.
 #![tactic(auto)]
 
-ghost use Rattle.std.specs.Prelude.{◌≡◌, ◌≤◌};
+ghost use Rattle.std.specs.Prelude.{◌≡◌, ◌≤◌, slice_index};
 ghost use Rattle.call_log.specs.Record.{kind_of, field_count, limit_of, limit_field, limit_bound, record_from, record_of};
 ghost use Rattle.call_log.specs.Log.{start_of};
 
 use model::{FIFO_ORDER, PRIORITY_ORDER};
 use numbers::Number;
 
-#[derive(Clone, Copy)]
+#[derive(Clone, Copy, Debug, PartialEq, Eq)]
 pub enum Record {
     // task, size, limit: -1 is forever, 0 is a poll, above 0 are ticks
     Get(u32, u32, i32),
@@ -31,24 +31,29 @@ pub const LONGEST_LOG: usize = 65536;
 pub const MOST_RECORDS: usize = 4096;
 
 // What a log begins with.
-#[derive(Clone, Copy)]
-pub enum Start {
-    // the pool's length and order, and the place of the first record
-    Taken(u32, u16, usize),
-    Bad,
+#[derive(Clone, Copy, Debug, PartialEq, Eq)]
+pub struct Start {
+    // the pool's length and order, the order by the number that create takes
+    pub length: u32,
+    pub order: u16,
+    // the place of the first record
+    pub size: usize,
 }
 
-// What stands at the start of the rest of a log.
-#[derive(Clone, Copy)]
-pub enum Read {
-    // a record, and the place after it
-    Taken(Record, usize),
-    End,
-    Bad,
+// A record at the start of the rest of a log.
+#[derive(Clone, Copy, Debug, PartialEq, Eq)]
+pub struct Taken {
+    pub record: Record,
+    // the place after it
+    pub size: usize,
 }
+
+// What stands at the start of the rest of a log is no record.
+#[derive(Clone, Copy, Debug, PartialEq, Eq)]
+pub struct BadRecord;
 
 // The kinds of record. Their numbers are 1 to 7 in this order.
-#[derive(Clone, Copy)]
+#[derive(Clone, Copy, Debug, PartialEq, Eq)]
 pub enum Kind {
     Get,
     Poll,
@@ -57,6 +62,7 @@ pub enum Kind {
     Tick,
     PriorityGet,
     PriorityPoll,
+    // of any other number: a kind and no None, since `field_count` answers on it too
     Unknown,
 }
 
@@ -66,47 +72,43 @@ const LIMIT_BOUND: u32 = 2147483648;
 // Record 8, which has no fields and stands only directly behind the pool's length: the pool's order is by priority.
 pub const ORDER_MARK: u32 = 8;
 
-// The pool's length and order, at the start of a log.
-pub fn read_start(log: &[u8]) -> Start
+// The pool's length and order, at the start of a log: none where that is no number.
+pub fn read_start(log: &[u8]) -> Option<Start>
     ensures { result ≡ start_of log.now }
 {
-    let Number::Value(n, size) = numbers::read_number(log) else {
-        return Start::Bad;
+    let Number {
+        value: length,
+        size,
+    } = numbers::read_number(log)?;
+    let (order, size) = match numbers::read_number(&log[size..]) {
+        Some(mark) if mark.value == ORDER_MARK => (PRIORITY_ORDER, size + mark.size),
+        _ => (FIFO_ORDER, size),
     };
-    let next = numbers::read_number(&log[size..]);
-    let Number::Value(mark, count) = next else {
-        return Start::Taken(n, FIFO_ORDER, size);
-    };
-    if mark != ORDER_MARK {
-        return Start::Taken(n, FIFO_ORDER, size);
-    }
-    Start::Taken(n, PRIORITY_ORDER, size + count)
+    Some(Start {
+        length,
+        order,
+        size,
+    })
 }
 
-// The record at the start of the rest of a log.
-pub fn read_record(rest: &[u8]) -> Read
+// The record at the start of the rest of a log, or none at the clean end.
+pub fn read_record(rest: &[u8]) -> Result<Option<Taken>, BadRecord>
     ensures { result ≡ record_of rest.now }
 {
-    if rest.len() == 0 {
-        return Read::End;
+    if rest.is_empty() {
+        return Ok(None);
     }
-    let Number::Value(number, first) = numbers::read_number(rest) else {
-        return Read::Bad;
-    };
-    let kind = kind_of(number);
-    let count = field_count(kind);
-    let mut fields = [0u32; 4];
-    let mut at = first;
-    let mut i: usize = 0;
-    while i < count {
-        let Number::Value(v, n) = numbers::read_number(&rest[at..]) else {
-            return Read::Bad;
-        };
-        fields[i] = v;
-        at += n;
-        i += 1;
+    let number = numbers::read_number(rest).ok_or(BadRecord)?;
+    let kind = kind_of(number.value);
+    let mut fields = [0; 4];
+    let mut size = number.size;
+    for field in &mut fields[..field_count(kind)] {
+        let number = numbers::read_number(&rest[size..]).ok_or(BadRecord)?;
+        *field = number.value;
+        size += number.size;
     }
-    record_from(kind, fields[0], fields[1], fields[2], fields[3], at)
+    let record = record_from(kind, fields).ok_or(BadRecord)?;
+    Ok(Some(Taken { record, size }))
 }
 
 // The kind of a number.
@@ -130,40 +132,28 @@ pub fn field_count(kind: Kind) -> usize
     ensures { result ≡ field_count kind }
 {
     match kind {
-        Kind::Get => 3,
-        Kind::Poll => 2,
-        Kind::Release => 1,
-        Kind::Cancel => 1,
-        Kind::Tick => 0,
         Kind::PriorityGet => 4,
-        Kind::PriorityPoll => 3,
-        Kind::Unknown => 0,
+        Kind::Get | Kind::PriorityPoll => 3,
+        Kind::Poll => 2,
+        Kind::Release | Kind::Cancel => 1,
+        Kind::Tick | Kind::Unknown => 0,
     }
 }
 
-// The record of a kind with the fields a, b, c and d, as many as the kind has, and the place after it.
-fn record_from(kind: Kind, a: u32, b: u32, c: u32, d: u32, after: usize) -> Read
-    ensures { result ≡ record_from kind a b c d after }
+// The record of a kind with the fields, as many as the kind has.
+fn record_from(kind: Kind, fields: [u32; 4]) -> Option<Record>
+    ensures { result ≡ record_from kind (slice_index fields 0) (slice_index fields 1) (slice_index fields 2) (slice_index fields 3) }
 {
+    let [a, b, c, d] = fields;
     match kind {
-        Kind::Get => {
-            if LIMIT_BOUND < c {
-                return Read::Bad;
-            }
-            Read::Taken(Record::Get(a, b, limit_of(c)), after)
-        }
-        Kind::Poll => Read::Taken(Record::Poll(a, b), after),
-        Kind::Release => Read::Taken(Record::Release(a), after),
-        Kind::Cancel => Read::Taken(Record::Cancel(a), after),
-        Kind::Tick => Read::Taken(Record::Tick, after),
-        Kind::PriorityGet => {
-            if LIMIT_BOUND < c {
-                return Read::Bad;
-            }
-            Read::Taken(Record::PriorityGet(a, b, limit_of(c), d), after)
-        }
-        Kind::PriorityPoll => Read::Taken(Record::PriorityPoll(a, b, c), after),
-        Kind::Unknown => Read::Bad,
+        Kind::Get if c <= LIMIT_BOUND => Some(Record::Get(a, b, limit_of(c))),
+        Kind::Poll => Some(Record::Poll(a, b)),
+        Kind::Release => Some(Record::Release(a)),
+        Kind::Cancel => Some(Record::Cancel(a)),
+        Kind::Tick => Some(Record::Tick),
+        Kind::PriorityGet if c <= LIMIT_BOUND => Some(Record::PriorityGet(a, b, limit_of(c), d)),
+        Kind::PriorityPoll => Some(Record::PriorityPoll(a, b, c)),
+        Kind::Get | Kind::PriorityGet | Kind::Unknown => None,
     }
 }
 
@@ -172,18 +162,12 @@ pub fn limit_of(field: u32) -> i32
     requires { field ≤ limit_bound }
     ensures { result ≡ limit_of field }
 {
-    if field == 0 {
-        return -1;
-    }
-    (field - 1) as i32
+    field.checked_sub(1).map_or(-1, |ticks| ticks as i32)
 }
 
 // The field of a get's limit: the limit plus 1.
 pub fn limit_field(limit: i32) -> u32
     ensures { result ≡ limit_field limit }
 {
-    if limit < 0 {
-        return 0;
-    }
-    limit as u32 + 1
+    u32::try_from(limit).map_or(0, |ticks| ticks + 1)
 }

@@ -9,6 +9,7 @@ use native.Mathlib.Nat.{zero-add, add-zero}
 use lib.ListN.{length, drop, replicate, length-append, length-replicate}
 use lib.Dec.{leb, eqb}
 use borrow.Author.Tests.{leb-true, leb-false, lt-leb, eqb-true, eqb-false, eq-eqb, ne_eqb, lt-ltb, le-ltb}
+use Rattle.std.specs.Prelude.{Some}
 use Rattle.model.specs.Limits.{most_tasks}
 use Rattle.model.specs.Blocks.{Block, block, is_free, total, tiled, holds, fits, starts_at, live_at, join, freed}
 use Rattle.model.specs.Bytes.{u32_at, header_at, blocks_of, le32, header, blank, overlay, written, mask, render, erase}
@@ -18,7 +19,6 @@ use Rattle.model.proofs.Masks.{over, overlay-overlay, over_append, over_written,
 use Rattle.model.proofs.Bytes.{Bytes, header-at, tail_at, split_at, tiled_roomy, render-blocks}
 use Rattle.layout.specs.declared.Spot.{Spot}
 use Rattle.layout.specs.declared.Target.TheVariants as target
-use Rattle.layout.specs.declared.Found.TheVariants as found
 use Rattle.layout.specs.Layout.{put, seek, sought, changed, Releasable, swallowed, swallow_of}
 use Rattle.layout.proofs.Sound.{open_pool}
 use Rattle.layout.proofs.Granting.{cell, cell_length, put-header, roomy_left, total-append}
@@ -75,7 +75,7 @@ pub record Around (p : ℕ) (bs : List Block) : Type 0 where
   pub after : freed p bs ≡ pre ++ (block (total lead + (b.size + total tail)) 0 ∷ post)
   -- where the walk finds it by any byte i of it, from a place `at` on, where the free bytes that end there begin at `free`
   pub spot : (i at free : ℕ) → p ≤ i → i < p + b.size → seek (sought (target.Holder (record { 0 = at + i }))) at free bs
-      ≡ found.At (record { place = record { 0 = at + p }; free = record { 0 = cond (eqb p 0) free (at + total pre) } })
+      ≡ Some (record { place = record { 0 = at + p }; free = record { 0 = cond (eqb p 0) free (at + total pre) } })
 
 join_live : (b : Block) (bs : List Block) → is_free b ≡ false → join b bs ≡ b ∷ bs
 unfolding join
@@ -89,7 +89,7 @@ join_apart b (c ∷ bs) e = rw e
 
 -- found at the first block
 head_spot : (b : Block) (bs : List Block) (i at free : ℕ) → i < b.size
-    → seek (sought (target.Holder (record { 0 = at + i }))) at free (b ∷ bs) ≡ found.At (record { place = record { 0 = at }; free = record { 0 = free } })
+    → seek (sought (target.Holder (record { 0 = at + i }))) at free (b ∷ bs) ≡ Some (record { place = record { 0 = at }; free = record { 0 = free } })
 unfolding seek
 head_spot b bs i at free h = rw (lt-ltb (at + i) (at + b.size) (omega arith))
 
@@ -131,7 +131,7 @@ second-around p c b rest m l e h =
     let z : eqb p 0 ≡ false = ne_eqb p 0 (omega arith) in
     let d : eqb (p - c.size) 0 ≡ true = eq-eqb (p - c.size) 0 (omega arith) in
     let found_there : (i at free : ℕ) → p ≤ i → i < p + b.size → seek (sought (target.Holder (record { 0 = at + i }))) at free (c ∷ b ∷ rest)
-    ≡ found.At (record { place = record { 0 = at + p }; free = record { 0 = cond (is_free c) at (at + c.size) } }) =
+    ≡ Some (record { place = record { 0 = at + p }; free = record { 0 = cond (is_free c) at (at + c.size) } }) =
     λ i at free x y. pass_spot c (b ∷ rest) i at free (omega arith) ∙ head_spot b rest (i - c.size) (at + c.size) (cond (is_free c) at (at + c.size)) (omega arith) ∙ rw e in
     by (is_free c)
     (λ f. record {
@@ -526,7 +526,7 @@ releasing l s w g =
       runs = λ m. freed-runs m p bs r ∙ ap (λ (k : ℕ). leb m k || fits m bs) (omega (arith, r.place));
     })
   where
-    spot_free : (p x n : ℕ) (s : Spot) → p ≡ x + n → found.At s ≡ found.At (record { place = record { 0 = p }; free = record { 0 = cond (eqb p 0) 0 (0 + x) } }) → s.free.0 ≡ x
+    spot_free : (p x n : ℕ) (s : Spot) → p ≡ x + n → Some s ≡ Some (record { place = record { 0 = p }; free = record { 0 = cond (eqb p 0) 0 (0 + x) } }) → s.free.0 ≡ x
     spot_free p x n s q e =
         let k : s ≡ record { place = record { 0 = p }; free = record { 0 = cond (eqb p 0) 0 (0 + x) } } = cc in
         ap (λ (z : Spot). z.free.0) k ∙ by (eqb p 0) (λ z. let h = eqb-true p 0 z in rw z (omega arith)) (λ z. rw z (zero-add x))

@@ -3,11 +3,13 @@ use Prim.Native.Nat.{ℕ, ◌+◌, ◌%◌, ◌≤◌, ◌<◌, max}
 use mathlib.Core.Path.{◌≡◌, refl, sym, ap, subst, ◌∙◌}
 use mathlib.Core.Bool.{Bool, true, false, not, cond, ◌&&◌, and-true, or-false}
 use mathlib.Core.List.{List, [], ◌∷◌}
+use mathlib.Core.Logic.{◌⊎◌, inl, inr}
 use native.Mathlib.Omega.{arith}
 use native.Mathlib.Nat.{zero-add, zero-max}
 use lib.ListN.{length, drop}
 use lib.Dec.{leb, ltb, eqb}
 use borrow.Author.Tests.{leb-true, leb-false, eqb-true, le-leb, lt-leb, eq-eqb, ne_eqb, le-ltb}
+use Rattle.std.specs.Prelude.{Option, Some, None}
 use Rattle.model.specs.Limits.{most_tasks, longest_pool}
 use Rattle.model.specs.Blocks.{Block, is_free, total, ok_block, tiled, holds, sum_free, greatest_free}
 use Rattle.model.specs.Bytes.{blocks_of}
@@ -16,13 +18,12 @@ use Rattle.model.proofs.Blocks.{small_not}
 use Rattle.model.proofs.Bytes.{tail_at}
 use Rattle.layout.specs.declared.Target.{Target}
 use Rattle.layout.specs.declared.Target.TheVariants as target
-use Rattle.layout.specs.declared.Found.{Found}
-use Rattle.layout.specs.declared.Found.TheVariants as found
+use Rattle.layout.specs.declared.Spot.{Spot}
 use Rattle.layout.specs.declared.Seen.{Seen}
 use Rattle.layout.specs.declared.Stop.{Stop}
-use Rattle.layout.specs.declared.Stop.TheVariants.{Here, End, Bad}
-use Rattle.layout.specs.declared.Surveyed.{Surveyed}
-use Rattle.layout.specs.Layout.{sound_pool, seek, sought, refused, survey_of, pass, behind, wanted, may_stand, stands, walk, walk_at, need_of, byte_of, spot_of}
+use Rattle.layout.specs.declared.Stop.TheVariants.{Here, End}
+use Rattle.layout.specs.declared.Survey.{Survey}
+use Rattle.layout.specs.Layout.{sound_pool, seek, sought, survey_of, pass, behind, wanted, may_stand, stands, walk, walk_at, need_of, byte_of, spot_of}
 use Rattle.layout.proofs.Sound.{Length}
 use Rattle.layout.proofs.Walking.{open_block, open_stands, pass-at, pass-behind, pass-sum}
 
@@ -51,42 +52,42 @@ passed_sum (b ∷ bs) v = passed_sum bs (pass b v) ∙ omega arith
 -- ---- where a walk stopped
 
 -- a walk that is to reach the end, and stops before it
-abbrev pub ended : Stop → Stop
-ended (Here v) = Bad
-ended (End v) = End v
-ended Bad = Bad
+abbrev pub ended : Option Stop → Option Stop
+ended (Some (Here v)) = None
+ended (Some (End v)) = Some (End v)
+ended None = None
 
 -- gone on with
-abbrev pub resume : (Seen → Stop) → Stop → Stop
-resume on (Here v) = on v
-resume on (End v) = End v
-resume on Bad = Bad
+abbrev pub resume : (Seen → Option Stop) → Option Stop → Option Stop
+resume on (Some (Here v)) = on v
+resume on (Some (End v)) = Some (End v)
+resume on None = None
 
-abbrev pub found_by : Stop → Found
-found_by (Here v) = spot_of v
-found_by (End v) = found.Nothing
-found_by Bad = found.Nothing
+abbrev pub found_by : Option Stop → Option Spot
+found_by (Some (Here v)) = Some (spot_of v)
+found_by (Some (End v)) = None
+found_by None = None
 
 -- what both calls report: where the first stopped, and what the last measured
-abbrev pub reported : Stop → Stop → Surveyed
-reported first (End w) = record { sound = true; found = found_by first; greatest = w.greatest; sum = w.sum }
-reported first (Here w) = refused
-reported first Bad = refused
+abbrev pub reported : Option Stop → Option Stop → Option Survey
+reported first (Some (End w)) = Some (record { found = found_by first; greatest = w.greatest; sum = w.sum })
+reported first (Some (Here w)) = None
+reported first None = None
 
-reported_ended : (first x : Stop) → reported first x ≡ reported first (ended x)
-reported_ended first (Here v) = refl
-reported_ended first (End v) = refl
-reported_ended first Bad = refl
+reported_ended : (first x : Option Stop) → reported first x ≡ reported first (ended x)
+reported_ended first (Some (Here v)) = refl
+reported_ended first (Some (End v)) = refl
+reported_ended first None = refl
 
 -- ---- with nothing sought
 
-walk_past : (need byte n : ℕ) (bs : List Block) (v : Seen) → n < v.at → walk need byte n v bs ≡ Bad
+walk_past : (need byte n : ℕ) (bs : List Block) (v : Seen) → n < v.at → walk need byte n v bs ≡ None
 unfolding walk
 walk_past need byte n [] v h = rw (ne_eqb v.at n (λ e. omega arith))
 walk_past need byte n (b ∷ bs) v h = rw (lt-leb (v.at + 12) n (omega arith))
 
 -- a block that ends past the end, whatever is sought
-walk-long : (need byte n : ℕ) (bs : List Block) (v : Seen) (b : Block) → n < v.at + b.size → ended (walk need byte n v (b ∷ bs)) ≡ Bad
+walk-long : (need byte n : ℕ) (bs : List Block) (v : Seen) (b : Block) → n < v.at + b.size → ended (walk need byte n v (b ∷ bs)) ≡ None
 unfolding walk
 walk-long need byte n bs v b h =
     by (stands n v b)
@@ -131,7 +132,7 @@ module _ (need byte n : ℕ) (hn : n < need) (hb : n ≤ byte) where
   walk_one bs v b e h = rw (e, unwanted v.at b h)
 
   -- the walk tells the tiling, and what is seen over all blocks
-  walk-whole : (bs : List Block) (v : Seen) → ended (walk need byte n v bs) ≡ cond (tiles n v bs) (End (pass_all bs v)) Bad
+  walk-whole : (bs : List Block) (v : Seen) → ended (walk need byte n v bs) ≡ cond (tiles n v bs) (Some (End (pass_all bs v))) None
   unfolding walk pass_all tiled total
   walk-whole [] v =
       let s : v.at + 0 ≡ v.at = omega arith in
@@ -142,11 +143,11 @@ module _ (need byte n : ℕ) (hn : n < need) (hb : n ≤ byte) where
       by (leb (v.at + b.size) n)
       (λ k. let m = leb-true (v.at + b.size) n k in
       let st : stands n v b ≡ true = rw (le-leb (v.at + 12) n (omega (arith, g.least)), e) in
-      ap ended (walk_one bs v b st m) ∙ walk-whole bs (pass b v) ∙ ap (λ (t : Bool). cond t (End (pass_all bs (pass b v))) Bad) (sym (tiles_pass n v b bs e)))
+      ap ended (walk_one bs v b st m) ∙ walk-whole bs (pass b v) ∙ ap (λ (t : Bool). cond t (Some (End (pass_all bs (pass b v)))) None) (sym (tiles_pass n v b bs e)))
       (λ k. let m = leb-false (v.at + b.size) n k in
-      walk-long need byte n bs v b m ∙ ap (λ (t : Bool). cond t (End (pass_all (b ∷ bs) v)) Bad) (sym (tiles_long n v b bs m))))
+      walk-long need byte n bs v b m ∙ ap (λ (t : Bool). cond t (Some (End (pass_all (b ∷ bs) v))) None) (sym (tiles_long n v b bs m))))
       (λ e. let st : stands n v b ≡ false = and_f_r (leb (v.at + 12) n) (may_stand v b) e in
-      rw st (ap (λ (t : Bool). cond t (End (pass_all (b ∷ bs) v)) Bad) (sym (tiles_unfit n v b bs e))))
+      rw st (ap (λ (t : Bool). cond t (Some (End (pass_all (b ∷ bs) v))) None) (sym (tiles_unfit n v b bs e))))
 
 -- ---- a walk that seeks, and one from there on with nothing sought, are one walk with nothing sought
 
@@ -166,10 +167,10 @@ module _ (s : List ℕ) (need byte need' byte' : ℕ) (hn : length s < need') (h
       by (leb (v.at + b.size) (length s))
       (λ k. ap ended (walk_one need' byte' (length s) hn hb bs v b g (leb-true (v.at + b.size) (length s) k))
       ∙ resumed bs (pass b v) (rw (pass-at v b.size b.owner) (tail_at v.at s b bs e (omega (arith, o.ahead)) (omega (arith, f.least))))
-      ∙ ap (λ (x : Stop). ended (resume (walk_at need' byte' s) x)) (sym p))
+      ∙ ap (λ (x : Option Stop). ended (resume (walk_at need' byte' s) x)) (sym p))
       (λ k. let l = leb-false (v.at + b.size) (length s) k in
       walk-long need' byte' (length s) bs v b l
-      ∙ sym (ap (λ (x : Stop). ended (resume (walk_at need' byte' s) x)) (p ∙ walk_past need byte (length s) bs (pass b v) (rw (pass-at v b.size b.owner) l))))))
+      ∙ sym (ap (λ (x : Option Stop). ended (resume (walk_at need' byte' s) x)) (p ∙ walk_past need byte (length s) bs (pass b v) (rw (pass-at v b.size b.owner) l))))))
       (λ g. rw g)
 
 -- ---- where the walk stops is the block sought
@@ -209,6 +210,9 @@ agree target.Nothing p b h = unwanted (longest_pool + 1) longest_pool longest_po
 abbrev pub unseen : Seen
 unseen = record { at = 0; free = 0; greatest = 0; sum = 0 }
 
+pub unseen_is : (v : Seen) → (v.at ≡ 0) × ((v.free ≡ 0) × ((v.greatest ≡ 0) × (v.sum ≡ 0))) → v ≡ unseen
+unseen_is v e = λ i. record { at = e.0 i; free = e.1.0 i; greatest = e.1.1.0 i; sum = e.1.1.1 i }
+
 module _ (s : List ℕ) (k : Length s) where
   sound_tiles : sound_pool s ≡ tiles (length s) unseen (blocks_of s)
   unfolding sound_pool
@@ -216,11 +220,11 @@ module _ (s : List ℕ) (k : Length s) where
       rw (eq-eqb (length s % 4) 0 k.by_four, le-leb 12 (length s) k.least, le-leb (length s) longest_pool k.most, zero-add (total (blocks_of s)))
       (and_swap (eqb (total (blocks_of s)) (length s)) (tiled most_tasks false (blocks_of s)))
 
-  two_calls : (need byte : ℕ) → ended (resume (walk_at (longest_pool + 1) longest_pool s) (walk_at need byte s unseen)) ≡ cond (sound_pool s) (End (pass_all (blocks_of s) unseen)) Bad
+  two_calls : (need byte : ℕ) → ended (resume (walk_at (longest_pool + 1) longest_pool s) (walk_at need byte s unseen)) ≡ cond (sound_pool s) (Some (End (pass_all (blocks_of s) unseen))) None
   two_calls need byte =
       sym (resumed s need byte (longest_pool + 1) longest_pool (omega (arith, k.most)) k.most (blocks_of s) unseen refl)
       ∙ walk-whole (longest_pool + 1) longest_pool (length s) (omega (arith, k.most)) k.most (blocks_of s) unseen
-      ∙ ap (λ (t : Bool). cond t (End (pass_all (blocks_of s) unseen)) Bad) (sym sound_tiles)
+      ∙ ap (λ (t : Bool). cond t (Some (End (pass_all (blocks_of s) unseen))) None) (sym sound_tiles)
 
   pub walk-sought : (t : Target) → sound_pool s ≡ true → found_by (walk_at (need_of t) (byte_of t) s unseen) ≡ seek (sought t) 0 0 (blocks_of s)
   walk-sought t e =
@@ -241,37 +245,30 @@ module _ (s : List ℕ) (k : Length s) where
       (λ e. rw e))
 
   -- by where the walk stops
-  pub survey_stop : (t : Target) (x : Stop) → walk_at (need_of t) (byte_of t) s unseen ≡ x → survey_of t s ≡ reported x (resume (walk_at (longest_pool + 1) longest_pool s) x)
-  survey_stop t x e = survey_is t ∙ ap (λ (y : Stop). reported y (resume (walk_at (longest_pool + 1) longest_pool s) y)) e
+  pub survey_stop : (t : Target) (x : Option Stop) → walk_at (need_of t) (byte_of t) s unseen ≡ x → survey_of t s ≡ reported x (resume (walk_at (longest_pool + 1) longest_pool s) x)
+  survey_stop t x e = survey_is t ∙ ap (λ (y : Option Stop). reported y (resume (walk_at (longest_pool + 1) longest_pool s) y)) e
 
-  pub survey_on : (t : Target) (v : Seen) (x : Stop) → walk_at (need_of t) (byte_of t) s unseen ≡ Here v → walk_at (longest_pool + 1) longest_pool s v ≡ x → survey_of t s ≡ reported (Here v) x
-  survey_on t v x e f = survey_stop t (Here v) e ∙ ap (reported (Here v)) f
+  pub survey_on : (t : Target) (v : Seen) (x : Option Stop) → walk_at (need_of t) (byte_of t) s unseen ≡ Some (Here v) → walk_at (longest_pool + 1) longest_pool s v ≡ x → survey_of t s ≡ reported (Some (Here v)) x
+  survey_on t v x e f = survey_stop t (Some (Here v)) e ∙ ap (reported (Some (Here v))) f
 
 -- what the second call asks of where the first stopped
-pub stop_sum : (need byte n : ℕ) (w : Seen) (bs : List Block) (v : Seen) → v.sum ≤ v.at → walk need byte n v bs ≡ Here w → w.sum ≤ w.at
+pub stop_sum : (need byte n : ℕ) (w : Seen) (bs : List Block) (v : Seen) → v.sum ≤ v.at → walk need byte n v bs ≡ Some (Here w) → w.sum ≤ w.at
 unfolding walk
 stop_sum need byte n w [] v k e =
     by (eqb v.at n)
-    (λ t. let m : End v ≡ Here w = rw t at e in absurd (let z : ◌≡◌ {A = ℕ} 0 1 = cc in omega arith))
-    (λ t. let m : Bad ≡ Here w = rw t at e in absurd (let z : ◌≡◌ {A = ℕ} 0 1 = cc in omega arith))
+    (λ t. let m : Some (End v) ≡ Some (Here w) = rw t at e in absurd (let z : ◌≡◌ {A = ℕ} 0 1 = cc in omega arith))
+    (λ t. let m : None ≡ Some (Here w) = rw t at e in absurd (let z : ◌≡◌ {A = ℕ} 0 1 = cc in omega arith))
 stop_sum need byte n w (b ∷ bs) v k e =
     by (stands n v b)
     (λ g. by (wanted need byte v.at b)
-    (λ x. let m : Here v ≡ Here w = rw (g, x) at e in let q : v ≡ w = cc in subst (λ (u : Seen). u.sum ≤ u.at) q k)
+    (λ x. let m : Some (Here v) ≡ Some (Here w) = rw (g, x) at e in let q : v ≡ w = cc in subst (λ (u : Seen). u.sum ≤ u.at) q k)
     (λ x. stop_sum need byte n w bs (pass b v) (pass-sum v b.size b.owner k) (rw (g, x) at e)))
-    (λ g. let m : Bad ≡ Here w = rw g at e in absurd (let z : ◌≡◌ {A = ℕ} 0 1 = cc in omega arith))
+    (λ g. let m : None ≡ Some (Here w) = rw g at e in absurd (let z : ◌≡◌ {A = ℕ} 0 1 = cc in omega arith))
 
 -- ---- lengths that no pool has
 
-module _ (t : Target) (s : List ℕ) where
-  pub refused_uneven : (length s % 4 ≡ 0 → ⊥) → survey_of t s ≡ refused
-  unfolding sound_pool
-  refused_uneven h = rw (ne_eqb (length s % 4) 0 h)
-
-  pub refused-short : length s % 4 ≡ 0 → length s < 12 → survey_of t s ≡ refused
-  unfolding sound_pool
-  refused-short k h = rw (eq-eqb (length s % 4) 0 k, lt-leb 12 (length s) h)
-
-  pub refused-long : length s % 4 ≡ 0 → 12 ≤ length s → longest_pool < length s → survey_of t s ≡ refused
-  unfolding sound_pool
-  refused-long k l h = rw (eq-eqb (length s % 4) 0 k, le-leb 12 (length s) l, lt-leb (length s) longest_pool h)
+pub refused_length : (t : Target) (s : List ℕ) → (length s % 4 ≡ 0 → ⊥) ⊎ ((length s % 4 ≡ 0) × (length s < 12)) ⊎ ((length s % 4 ≡ 0) × (12 ≤ length s) × (longest_pool < length s)) → survey_of t s ≡ None
+unfolding sound_pool
+refused_length t s (inl h) = rw (ne_eqb (length s % 4) 0 h)
+refused_length t s (inr (inl h)) = rw (eq-eqb (length s % 4) 0 h.0, lt-leb 12 (length s) h.1)
+refused_length t s (inr (inr h)) = rw (eq-eqb (length s % 4) 0 h.0, le-leb 12 (length s) h.1, lt-leb (length s) longest_pool h.2)

@@ -7,14 +7,16 @@ use native.Mathlib.Omega.{arith}
 use native.Mathlib.Nat.{add-zero, max-zero}
 use lib.ListN.{length, drop}
 use lib.Dec.{leb, ltb, eqb}
-use borrow.Author.Tests.{leb-true, eqb-true, ltb-true, ltb-false, le-leb, lt-leb, eq-eqb, ne_eqb, lt-ltb, le-ltb}
+use borrow.Author.Tests.{leb-true, eqb-true, eqb-false, ltb-true, ltb-false, le-leb, lt-leb, eq-eqb, ne_eqb, lt-ltb, le-ltb}
+use Rattle.std.specs.Prelude.{Some, None}
+use Rattle.std.specs.Bool.{then_some}
 use Rattle.model.specs.Limits.{most_tasks}
 use Rattle.model.specs.Blocks.{Block, block, is_free, ok_block}
 use Rattle.model.specs.Bytes.{u32_at, header_at, blocks_of}
 use Rattle.model.proofs.Tests.{by, and_l, and_r, and_i, and_f_r}
 use Rattle.model.proofs.Bytes.{first-at, blocks_at, blocks_end}
 use Rattle.layout.specs.declared.Seen.{Seen}
-use Rattle.layout.specs.declared.Stop.TheVariants.{Here, End, Bad}
+use Rattle.layout.specs.declared.Stop.TheVariants.{Here, End}
 use Rattle.layout.specs.Layout.{pass, behind, wanted, may_stand, stands, walk, walk_at}
 
 -- ---- a header that may stand in a pool
@@ -57,7 +59,7 @@ module _ (n : ℕ) (v : Seen) (b : Block) where
 -- ---- the walk over bytes
 
 module _ (need byte : ℕ) (s : List ℕ) (v : Seen) where
-  pub walk_end : v.at ≡ length s → walk_at need byte s v ≡ End v
+  walk_end : v.at ≡ length s → walk_at need byte s v ≡ Some (End v)
   unfolding walk
   walk_end h = ap (walk need byte (length s) v) (blocks_end v.at s (omega arith)) ∙ rw (eq-eqb v.at (length s) h)
 
@@ -66,7 +68,7 @@ module _ (need byte : ℕ) (s : List ℕ) (v : Seen) where
     here : header_at s v.at ≡ block z o
     here = λ i. block (sym ez i) (sym eo i)
 
-    pub walk_bad : stands (length s) v (block z o) ≡ false → walk_at need byte s v ≡ Bad
+    pub walk_bad : stands (length s) v (block z o) ≡ false → walk_at need byte s v ≡ None
     unfolding walk
     walk_bad e = let f = first-at v.at s h in ap (walk need byte (length s) v) (f.1 ∙ ap (λ (b : Block). b ∷ f.0) here) ∙ rw e
 
@@ -76,7 +78,7 @@ module _ (need byte : ℕ) (s : List ℕ) (v : Seen) where
           let g = open_block (block z o) (open_stands (length s) v (block z o) e).fit in
           blocks_at v.at s h (omega (arith, g.least)) ∙ (λ i. here i ∷ blocks_of (drop (v.at + sym ez i) s))
 
-      pub walk_here : wanted need byte v.at (block z o) ≡ true → walk_at need byte s v ≡ Here v
+      pub walk_here : wanted need byte v.at (block z o) ≡ true → walk_at need byte s v ≡ Some (Here v)
       unfolding walk
       walk_here w = ap (walk need byte (length s) v) ahead ∙ rw (e, w)
 
@@ -84,12 +86,19 @@ module _ (need byte : ℕ) (s : List ℕ) (v : Seen) where
       unfolding walk pass
       walk-pass w = ap (walk need byte (length s) v) ahead ∙ rw (e, w)
 
-  pub walk-short : (v.at ≡ length s → ⊥) → length s - 12 < v.at → 12 ≤ length s → walk_at need byte s v ≡ Bad
+  walk-short : (v.at ≡ length s → ⊥) → length s - 12 < v.at → 12 ≤ length s → walk_at need byte s v ≡ None
   unfolding walk
   walk-short ne k m =
       by (ltb v.at (length s))
       (λ e. let h : v.at < length s = ltb-true v.at (length s) e in walk_bad (u32_at s v.at) (u32_at s (v.at + 4)) h refl refl (short (length s) v (block (u32_at s v.at) (u32_at s (v.at + 4))) (omega arith)))
       (λ e. ap (walk need byte (length s) v) (blocks_end v.at s (ltb-false v.at (length s) e)) ∙ rw (ne_eqb v.at (length s) ne))
+
+  -- behind the last place that has room for a header
+  pub walk_stop : length s - 12 < v.at → 12 ≤ length s → walk_at need byte s v ≡ then_some (eqb v.at (length s)) (End v)
+  walk_stop k m =
+      by (eqb v.at (length s))
+      (λ e. rw e (walk_end (eqb-true v.at (length s) e)))
+      (λ e. rw e (walk-short (eqb-false v.at (length s) e) k m))
 
 -- ---- what a block passed adds to what was seen
 

@@ -1,10 +1,12 @@
 -- Laws of bytes written at a place. Assumes nothing.
-use Prim.Native.Nat.{ℕ, zero, suc, ◌+◌}
+use Prim.Native.Nat.{ℕ, zero, suc, ◌+◌, ◌≤◌}
 use mathlib.Core.Path.{◌≡◌, refl, sym, ap, ◌∙◌}
 use mathlib.Core.List.{List, [], ◌∷◌, ◌++◌, append_assoc, append-nil}
 use mathlib.Core.Option.{Option, none, some}
 use native.Mathlib.Nat.{zero-add, suc-add}
-use lib.ListN.{length, replicate, set, length-replicate}
+use native.Mathlib.Omega.{arith}
+use lib.ListN.{length, drop, replicate, length-replicate}
+use borrow.Rule.Slice.PartMut.{put_mid}
 use Rattle.model.specs.Bytes.{overlay, written}
 use Rattle.model.proofs.Masks.{over, overlay-overlay, over_append, over_same, over_written, none_over, written-length}
 use Rattle.layout.specs.Layout.{put}
@@ -51,18 +53,15 @@ put-put p q xs ys l e =
     overlay-overlay (replicate q none ++ written ys) (replicate p none ++ written xs) l
     ∙ ap (λ (r : List (Option ℕ)). overlay r l) (o ∙ ap (λ (r : List (Option ℕ)). replicate p none ++ r) (sym (written-append xs ys)))
 
-set-put : (l : List ℕ) (p x : ℕ) → set l p x ≡ put p (x ∷ []) l
-unfolding put overlay written
-set-put [] zero x = refl
-set-put [] (suc p) x = refl
-set-put (y ∷ l) zero x = refl
-set-put (y ∷ l) (suc p) x = ap (λ (r : List ℕ). y ∷ r) (set-put l p x)
+overlay-written : (xs l : List ℕ) → length xs ≤ length l → overlay (written xs) l ≡ xs ++ drop (length xs) l
+unfolding overlay written
+overlay-written [] l h = refl
+overlay-written (x ∷ xs) [] h = absurd (omega arith)
+overlay-written (x ∷ xs) (y ∷ l) h = ap (λ (r : List ℕ). x ∷ r) (overlay-written xs l (omega arith))
 
--- four stores in a row
-pub put_four : (l : List ℕ) (p a b c d : ℕ) → set (set (set (set l p a) (p + 1) b) (p + 2) c) (p + 3) d ≡ put p (a ∷ b ∷ c ∷ d ∷ []) l
-put_four l p a b c d =
-    set-put (set (set (set l p a) (p + 1) b) (p + 2) c) (p + 3) d
-    ∙ ap (put (p + 3) (d ∷ [])) (set-put (set (set l p a) (p + 1) b) (p + 2) c ∙ ap (put (p + 2) (c ∷ [])) (set-put (set l p a) (p + 1) b ∙ ap (put (p + 1) (b ∷ [])) (set-put l p a)))
-    ∙ ap (λ (r : List ℕ). put (p + 3) (d ∷ []) (put (p + 2) (c ∷ []) r)) (put-put p (p + 1) (a ∷ []) (b ∷ []) l refl)
-    ∙ ap (put (p + 3) (d ∷ [])) (put-put p (p + 2) (a ∷ b ∷ []) (c ∷ []) l refl)
-    ∙ put-put p (p + 3) (a ∷ b ∷ c ∷ []) (d ∷ []) l refl
+-- a copy over a part of the bytes
+pub put_mid-put : (p : ℕ) (xs l : List ℕ) → p + length xs ≤ length l → put_mid p (length xs) l xs ≡ put p xs l
+unfolding put overlay
+put_mid-put zero xs l h = sym (overlay-written xs l (omega arith))
+put_mid-put (suc p) xs [] h = absurd (omega arith)
+put_mid-put (suc p) xs (y ∷ l) h = ap (λ (r : List ℕ). y ∷ r) (put_mid-put p xs l (omega arith))

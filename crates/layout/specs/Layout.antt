@@ -1,5 +1,5 @@
 -- What the routines on the pool's bytes answer and leave.
-use Rattle.std.specs.Prelude.{ℕ, ◌+◌, ◌≤◌, ◌<◌, max, ◌≡◌, Bool, true, false, not, cond, ◌&&◌, ◌||◌, List, [], ◌∷◌, ◌++◌, length, drop, replicate, leb, ltb, eqb}
+use Rattle.std.specs.Prelude.{ℕ, ◌+◌, ◌≤◌, ◌<◌, max, ◌≡◌, Bool, true, false, not, cond, ◌&&◌, ◌||◌, List, [], ◌∷◌, ◌++◌, length, drop, replicate, leb, ltb, eqb, Option, Some, None}
 use Rattle.std.proofs.Math.Option.{none}
 use Rattle.model.specs.declared.HeaderPlace.{HeaderPlace}
 use Rattle.model.specs.Limits.{most_tasks, longest_pool}
@@ -10,12 +10,10 @@ use Rattle.model.specs.Calls.{offset_of}
 use Rattle.layout.specs.declared.Target.{Target}
 use Rattle.layout.specs.declared.Target.TheVariants as target
 use Rattle.layout.specs.declared.Spot.{Spot}
-use Rattle.layout.specs.declared.Found.{Found}
-use Rattle.layout.specs.declared.Found.TheVariants as found
 use Rattle.layout.specs.declared.Seen.{Seen}
 use Rattle.layout.specs.declared.Stop.{Stop}
-use Rattle.layout.specs.declared.Stop.TheVariants.{Here, End, Bad}
-use Rattle.layout.specs.declared.Surveyed.{Surveyed}
+use Rattle.layout.specs.declared.Stop.TheVariants.{Here, End}
+use Rattle.layout.specs.declared.Survey.{Survey}
 
 -- ---- numbers and headers in bytes
 
@@ -36,11 +34,11 @@ sound_pool l = ok_long (length l) && (eqb (total (blocks_of l)) (length l) && ti
 -- ---- the survey: what any bytes are found to be
 
 -- the first block that passes a test of place and block, and where the free bytes that end at it begin; `at` and `free` are those of the first block
-unfoldable pub seek : (ℕ → Block → Bool) → ℕ → ℕ → List Block → Found
-seek test at free [] = found.Nothing
+unfoldable pub seek : (ℕ → Block → Bool) → ℕ → ℕ → List Block → Option Spot
+seek test at free [] = None
 seek test at free (b ∷ bs) =
     cond (test at b)
-    (found.At (record { place = record { 0 = at }; free = record { 0 = free } }))
+    (Some (record { place = record { 0 = at }; free = record { 0 = free } }))
     (seek test (at + b.size) (cond (is_free b) at (at + b.size)) bs)
 
 abbrev pub sought : Target → ℕ → Block → Bool
@@ -48,16 +46,14 @@ sought (target.Run need) at b = holds need b
 sought (target.Holder o) at b = ltb o.0 (at + b.size)
 sought target.Nothing at b = false
 
-abbrev pub refused : Surveyed
-refused = record { sound = false; found = found.Nothing; greatest = 0; sum = 0 }
-
-abbrev pub survey_of : Target → List ℕ → Surveyed
+-- None where the bytes are no sound pool
+abbrev pub survey_of : Target → List ℕ → Option Survey
 survey_of t l =
     cond (sound_pool l)
-    (record { sound = true; found = seek (sought t) 0 0 (blocks_of l); greatest = greatest_free (blocks_of l); sum = sum_free (blocks_of l) })
-    refused
+    (Some (record { found = seek (sought t) 0 0 (blocks_of l); greatest = greatest_free (blocks_of l); sum = sum_free (blocks_of l) }))
+    None
 
-abbrev pub first_fit_of : ℕ → List Block → Found
+abbrev pub first_fit_of : ℕ → List Block → Option Spot
 first_fit_of need bs = seek (λ at b. holds need b) 0 0 bs
 
 -- ---- the walk: what was seen so far, and where it stops
@@ -83,13 +79,13 @@ may_stand v b = not (is_free b && behind v) && ok_block most_tasks b
 abbrev pub stands : ℕ → Seen → Block → Bool
 stands n v b = leb (v.at + 12) n && may_stand v b
 
--- over blocks that are to end at n
-unfoldable pub walk : ℕ → ℕ → ℕ → Seen → List Block → Stop
-walk need byte n v [] = cond (eqb v.at n) (End v) Bad
-walk need byte n v (b ∷ bs) = cond (stands n v b) (cond (wanted need byte v.at b) (Here v) (walk need byte n (pass b v) bs)) Bad
+-- over blocks that are to end at n; None where they are no sound pool
+unfoldable pub walk : ℕ → ℕ → ℕ → Seen → List Block → Option Stop
+walk need byte n v [] = cond (eqb v.at n) (Some (End v)) None
+walk need byte n v (b ∷ bs) = cond (stands n v b) (cond (wanted need byte v.at b) (Some (Here v)) (walk need byte n (pass b v) bs)) None
 
 -- over the bytes of a pool from the place seen last on
-abbrev pub walk_at : ℕ → ℕ → List ℕ → Seen → Stop
+abbrev pub walk_at : ℕ → ℕ → List ℕ → Seen → Option Stop
 walk_at need byte l v = walk need byte (length l) v (blocks_of (drop v.at l))
 
 -- a target as two numbers, which no block of a pool meets where they stand for nothing
@@ -103,8 +99,8 @@ byte_of (target.Run need) = longest_pool
 byte_of (target.Holder o) = o.0
 byte_of target.Nothing = longest_pool
 
-abbrev pub spot_of : Seen → Found
-spot_of v = found.At (record { place = record { 0 = v.at }; free = record { 0 = v.free } })
+abbrev pub spot_of : Seen → Spot
+spot_of v = record { place = record { 0 = v.at }; free = record { 0 = v.free } }
 
 -- ---- changes
 
@@ -123,7 +119,7 @@ pub record Grantable (l : List ℕ) (place : HeaderPlace) (need : ℕ) : Type 0 
 pub record Releasable (l : List ℕ) (spot : Spot) : Type 0 where
   pub pool : sound_pool l ≡ true
   pub live : live_at spot.place.0 (blocks_of l) ≡ true
-  pub found : seek (sought (target.Holder (offset_of spot.place))) 0 0 (blocks_of l) ≡ found.At spot
+  pub found : seek (sought (target.Holder (offset_of spot.place))) 0 0 (blocks_of l) ≡ Some spot
 
 -- what a release of the block at the place p leaves: a need fits exactly if it did before, or the run that is now free, of r bytes, holds it
 pub record Released (l : List ℕ) (p : ℕ) (after : List ℕ) (r : ℕ) : Type 0 where

@@ -14,14 +14,13 @@ pub fn grant_at(s: &mut [u8], place: HeaderPlace, need: usize, task: usize)
     requires { Grantable s.old place need }
     ensures { s.new ≡ changed (granted need task) s.old }
 {
-    let at = place.0;
-    let size = header::read_u32(s, at);
+    let size = header::read_u32(s, place.0);
     let rest = size - need;
     if LEAST_REST <= rest {
-        header::write_header(s, HeaderPlace(at), need, task);
-        header::write_header(s, HeaderPlace(at + need), rest, 0);
+        header::write_header(s, place, need, task);
+        header::write_header(s, HeaderPlace(place.0 + need), rest, 0);
     } else {
-        header::write_header(s, HeaderPlace(at), size, task);
+        header::write_header(s, place, size, task);
     }
 }
 
@@ -30,19 +29,16 @@ fn swallow(s: &mut [u8], at: usize) -> usize
     requires { at < length s.old → at + 8 ≤ length s.old }
     ensures { swallowed result s.new ≡ swallow_of at s.old }
 {
-    if s.len() <= at {
+    if s.len() <= at || header::read_u32(s, at + 4) != 0 {
         return 0;
     }
     let size = header::read_u32(s, at);
-    let owner = header::read_u32(s, at + 4);
-    if owner != 0 {
-        return 0;
-    }
     header::write_header(s, HeaderPlace(at), 0, 0);
     size
 }
 
-// Frees the live block that was found: it joins a free block behind it, then one before it, and their headers become zero. Answers the size of the run.
+// Frees the live block that was found: it joins a free block behind it, then one before it, and their headers become zero. Answers the size of
+// the run.
 pub fn release_at(s: &mut [u8], spot: Spot) -> usize
     requires { Releasable s.old spot }
     ensures { Released s.old spot.place.0 s.new result }
@@ -53,10 +49,8 @@ pub fn release_at(s: &mut [u8], spot: Spot) -> usize
     let behind = swallow(s, at + size);
     let total = at - first + size + behind;
     if first < at {
-        header::write_header(s, HeaderPlace(at), 0, 0);
-        header::write_header(s, HeaderPlace(first), total, 0);
-        return total;
+        header::write_header(s, spot.place, 0, 0);
     }
-    header::write_header(s, HeaderPlace(first), total, 0);
+    header::write_header(s, spot.free, total, 0);
     total
 }

@@ -16,27 +16,19 @@ pub fn offset_of(place: HeaderPlace) -> BlockOffset
     BlockOffset(place.0 + 8)
 }
 
-fn wide(x: u8) -> usize
-    ensures { (result ≡ x) × (result < 256) }
-{
-    x as usize
-}
-
 pub fn read_u32(s: &[u8], at: usize) -> usize
     requires { at + 4 ≤ length s.now }
     ensures { Read s.now at result }
 {
-    wide(s[at]) + 256 * wide(s[at + 1]) + 65536 * wide(s[at + 2]) + 16777216 * wide(s[at + 3])
+    u32::from_le_bytes([s[at], s[at + 1], s[at + 2], s[at + 3]]) as usize
 }
 
 fn write_u32(s: &mut [u8], at: usize, n: usize)
     requires { at + 4 ≤ length s.old }
     ensures { s.new ≡ put at (le32 n) s.old }
 {
-    s[at] = (n % 256) as u8;
-    s[at + 1] = (n / 256 % 256) as u8;
-    s[at + 2] = (n / 65536 % 256) as u8;
-    s[at + 3] = (n / 16777216 % 256) as u8;
+    let bytes = n.to_le_bytes();
+    s[at..at + 4].copy_from_slice(&bytes[..4]);
 }
 
 pub fn write_header(s: &mut [u8], place: HeaderPlace, size: usize, owner: usize)

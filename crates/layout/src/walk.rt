@@ -1,34 +1,27 @@
 // The walk over headers from 0: it tests, measures and finds, and goes over each header once.
-ghost use Rattle.std.specs.Prelude.{◌≡◌, true, ◌+◌, ◌≤◌, ◌<◌, max, length};
+ghost use Rattle.std.specs.Prelude.{◌≡◌, true, ◌+◌, ◌≤◌, ◌<◌, length};
 ghost use Rattle.model.specs.Limits.{most_tasks, longest_pool};
 ghost use Rattle.model.specs.Blocks.{block, ok_block};
 ghost use Rattle.model.specs.Bytes.{blocks_of};
-ghost use Rattle.layout.specs.Layout.{may_stand, wanted, pass, walk_at, need_of, byte_of, spot_of, refused, survey_of, sound_pool, first_fit_of};
+ghost use Rattle.layout.specs.Layout.{may_stand, wanted, pass, walk_at, need_of, byte_of, spot_of, survey_of, sound_pool, first_fit_of};
 
-use crate::{Found, Seen, Spot, Stop, Surveyed, Target, header};
+use crate::{Seen, Spot, Stop, Survey, Target, header};
 use model::{HeaderPlace, LONGEST_POOL, TASKS};
 
 // Whether a header may stand in a pool. Whether the block ends within the pool shows when the walk ends.
 fn is_block(size: usize, owner: usize) -> bool
     ensures { result ≡ ok_block most_tasks (block size owner) }
 {
-    if size % 4 != 0 {
-        return false;
-    }
-    if size < 12 {
-        return false;
-    }
-    owner <= TASKS
+    size % 4 == 0 && 12 <= size && owner <= TASKS
 }
 
-// Whether a header may stand behind what was seen: no free block follows a free one. The owner is tested first, so that the compiled walk branches on it once.
+// Whether a header may stand behind what was seen: no free block follows a free one. The owner is tested first, so that the compiled walk
+// branches on it once.
 fn may_stand(seen: Seen, size: usize, owner: usize) -> bool
     ensures { result ≡ may_stand seen (block size owner) }
 {
-    if owner == 0 {
-        if seen.free < seen.at {
-            return false;
-        }
+    if owner == 0 && seen.free < seen.at {
+        return false;
     }
     is_block(size, owner)
 }
@@ -39,18 +32,7 @@ fn is_wanted(need: usize, byte: usize, at: usize, size: usize, owner: usize) -> 
     ensures { result ≡ wanted need byte at (block size owner) }
 {
     let end = at + size;
-    if owner == 0 {
-        if need <= size {
-            return true;
-        }
-    }
-    byte < end
-}
-
-pub fn greater(a: usize, b: usize) -> usize
-    ensures { result ≡ max a b }
-{
-    if a < b { b } else { a }
+    (owner == 0 && need <= size) || byte < end
 }
 
 // What is seen once a block is passed.
@@ -64,44 +46,40 @@ fn passed(seen: Seen, size: usize, owner: usize) -> Seen
         return Seen {
             at: next,
             free: next,
-            greatest: seen.greatest,
-            sum: seen.sum,
+            ..seen
         };
     }
     let room = size - 8;
     Seen {
         at: next,
         free: at,
-        greatest: greater(seen.greatest, room),
+        greatest: seen.greatest.max(room),
         sum: seen.sum + room,
     }
 }
 
-// Tests and measures block by block from what was seen on; stops before a free block of `need` bytes or the block that holds `byte`.
-fn walk_from(s: &[u8], need: usize, byte: usize, seen: Seen) -> Stop
+// Tests and measures block by block from what was seen on; stops before a free block of `need` bytes or the block that holds `byte`. None where the
+// bytes are no sound pool.
+fn walk_from(s: &[u8], need: usize, byte: usize, mut seen: Seen) -> Option<Stop>
     requires { (12 ≤ length s.now) × (length s.now ≤ longest_pool) × (seen.sum ≤ seen.at) }
     ensures { result ≡ walk_at need byte s.now seen }
 {
     let n = s.len();
     let last = n - 12;
-    let mut v = seen;
+    // from header to header: each block says where the next begins
     loop {
-        let at = v.at;
-        if last < at {
-            if at == n {
-                break Stop::End(v);
-            }
-            break Stop::Bad;
+        if last < seen.at {
+            break (seen.at == n).then_some(Stop::End(seen));
         }
-        let size = header::read_u32(s, at);
-        let owner = header::read_u32(s, at + 4);
-        if !may_stand(v, size, owner) {
-            break Stop::Bad;
+        let size = header::read_u32(s, seen.at);
+        let owner = header::read_u32(s, seen.at + 4);
+        if !may_stand(seen, size, owner) {
+            break None;
         }
-        if is_wanted(need, byte, at, size, owner) {
-            break Stop::Here(v);
+        if is_wanted(need, byte, seen.at, size, owner) {
+            break Some(Stop::Here(seen));
         }
-        v = passed(v, size, owner);
+        seen = passed(seen, size, owner);
     }
 }
 
@@ -115,8 +93,7 @@ fn need_of(target: Target) -> usize
 {
     match target {
         Target::Run(need) => need,
-        Target::Holder(_) => NO_NEED,
-        Target::Nothing => NO_NEED,
+        Target::Holder(_) | Target::Nothing => NO_NEED,
     }
 }
 
@@ -124,92 +101,54 @@ fn byte_of(target: Target) -> usize
     ensures { result ≡ byte_of target }
 {
     match target {
-        Target::Run(_) => NO_BYTE,
         Target::Holder(offset) => offset.0,
-        Target::Nothing => NO_BYTE,
+        Target::Run(_) | Target::Nothing => NO_BYTE,
     }
 }
 
-// What is answered of bytes that are no sound pool.
-pub fn unsound() -> Surveyed
-    ensures { result ≡ refused }
-{
-    Surveyed {
-        sound: false,
-        found: Found::Nothing,
-        greatest: 0,
-        sum: 0,
-    }
-}
-
-fn spot_of(seen: Seen) -> Found
+fn spot_of(seen: Seen) -> Spot
     ensures { result ≡ spot_of seen }
 {
-    Found::At(Spot {
+    Spot {
         place: HeaderPlace(seen.at),
         free: HeaderPlace(seen.free),
-    })
-}
-
-fn unseen() -> Seen
-    ensures { result ≡ record { at = 0; free = 0; greatest = 0; sum = 0 } }
-{
-    Seen {
-        at: 0,
-        free: 0,
-        greatest: 0,
-        sum: 0,
     }
 }
 
-// Tests the whole pool, measures it and finds one block, in one pass.
-pub fn survey(s: &[u8], target: Target) -> Surveyed
+// Tests the whole pool, measures it and finds one block, in one pass. None where the bytes are no sound pool.
+pub fn survey(s: &[u8], target: Target) -> Option<Survey>
     ensures { result ≡ survey_of target s.now }
 {
     let n = s.len();
-    if n % 4 != 0 {
-        return unsound();
+    if n % 4 != 0 || n < 12 || LONGEST_POOL < n {
+        return None;
     }
-    if n < 12 {
-        return unsound();
-    }
-    if LONGEST_POOL < n {
-        return unsound();
-    }
-    let first = walk_from(s, need_of(target), byte_of(target), unseen());
-    match first {
-        Stop::Bad => unsound(),
-        Stop::End(v) => Surveyed {
-            sound: true,
-            found: Found::Nothing,
-            greatest: v.greatest,
-            sum: v.sum,
-        },
-        Stop::Here(v) => {
-            let last = walk_from(s, NO_NEED, NO_BYTE, v);
-            match last {
-                Stop::End(w) => Surveyed {
-                    sound: true,
-                    found: spot_of(v),
-                    greatest: w.greatest,
-                    sum: w.sum,
-                },
-                Stop::Here(_) => unsound(),
-                Stop::Bad => unsound(),
-            }
+    match walk_from(s, need_of(target), byte_of(target), Seen::default())? {
+        Stop::End(seen) => Some(Survey {
+            found: None,
+            greatest: seen.greatest,
+            sum: seen.sum,
+        }),
+        Stop::Here(here) => {
+            let Stop::End(seen) = walk_from(s, NO_NEED, NO_BYTE, here)? else {
+                return None;
+            };
+            Some(Survey {
+                found: Some(spot_of(here)),
+                greatest: seen.greatest,
+                sum: seen.sum,
+            })
         }
     }
 }
 
 // The first free run of at least `need` bytes of a sound pool.
-pub fn first_fit(s: &[u8], need: usize) -> Found
+pub fn first_fit(s: &[u8], need: usize) -> Option<Spot>
     requires { sound_pool s.now ≡ true }
     ensures { result ≡ first_fit_of need (blocks_of s.now) }
 {
-    let stop = walk_from(s, need, NO_BYTE, unseen());
-    match stop {
-        Stop::Here(v) => spot_of(v),
-        Stop::End(_) => Found::Nothing,
-        Stop::Bad => Found::Nothing,
-    }
+    let Stop::Here(here) = walk_from(s, need, NO_BYTE, Seen::default())? else {
+        return None;
+    };
+    Some(spot_of(here))
 }

@@ -1,85 +1,55 @@
 // The line of a text: its words are taken from left to right.
 #![tactic(auto)]
 
-ghost use Rattle.std.specs.Prelude.{◌≤◌, ◌≡◌, true, [], ◌∷◌, drop};
+ghost use Rattle.std.specs.Prelude.{◌≤◌, ◌≡◌, true, [], drop};
 ghost use Rattle.call_log.specs.Record.{limit_of, limit_bound};
 ghost use Rattle.text.specs.Words.{words_in, words_of};
 ghost use Rattle.log_text.specs.Form.{form, Bounded};
-ghost use Rattle.log_text.specs.Reading.{Arguments·taken, take_number, take_option, take_word, take_slot, take_slots, get_with, poll_with, order_with, extra, line_from, made, keyword_of, is_known, unknown, line_of, limited};
-ghost use Rattle.log_line.specs.Steps.{is_call, seen, refusal_of};
+ghost use Rattle.log_text.specs.Reading.{take_number, take_option, take_word, take_slot, take_slots, get_with, poll_with, order_with, extra, made, keyword_of, unknown, line_of, limited};
+ghost use Rattle.log_line.specs.Steps.{known_words, seen};
 
 use call_log::{MOST_RECORDS, Record};
 use log_text::{Keyword, LIMIT_MOST, Line, NUMBER_MOST, Slot, Why};
 use model::{FIFO_ORDER, PRIORITY_ORDER};
 use text::words;
-use text::words::{Class, Numeral, Place};
+use text::words::{Class, NumeralError, Word};
 
-// What a slot takes from a line.
+// What a slot takes from a line: the argument, and the place after its words.
 #[derive(Clone, Copy)]
-enum Argument {
-    // the argument, and the place after its words
-    Taken(u64, usize),
-    Refused(Why),
+struct Argument {
+    value: u64,
+    next: usize,
 }
 
 // The next line of a text, behind `count` records.
-pub fn line_after(line: &[u8], begun: bool, count: usize) -> Line
+pub fn line_after(line: &[u8], begun: bool, count: usize) -> Result<Line, Why>
     ensures { result ≡ limited count (line_of begun (words_of line.now)) }
 {
-    let read = read_line(line, begun);
-    if count < MOST_RECORDS {
-        return read;
+    let said = read_line(line, begun)?;
+    let is_full = MOST_RECORDS <= count;
+    if is_full && matches!(said, Line::Call(_)) {
+        return Err(Why::TooManyRecords);
     }
-    if is_call(read) {
-        return Line::Refused(Why::TooManyRecords);
-    }
-    read
-}
-
-fn is_call(said: Line) -> bool
-    ensures { result ≡ is_call said }
-{
-    match said {
-        Line::Blank => false,
-        Line::Pool(_, _) => false,
-        Line::Call(_) => true,
-        Line::Refused(_) => false,
-    }
+    Ok(said)
 }
 
 // What a line says, before the pool line or behind it.
-pub fn read_line(line: &[u8], begun: bool) -> Line
+pub fn read_line(line: &[u8], begun: bool) -> Result<Line, Why>
     ensures { result ≡ line_of begun (words_of line.now) }
 {
     let end = words::span_end(line, 0, Class::Plain);
-    read_words(&line[0..end], begun)
+    read_words(&line[..end], begun)
 }
 
-fn read_words(s: &[u8], begun: bool) -> Line
+fn read_words(s: &[u8], begun: bool) -> Result<Line, Why>
     ensures { result ≡ line_of begun (words_in s.now) }
 {
-    let word = words::next_word(s, 0);
-    let Place::At(start, end) = word else {
-        return Line::Blank;
+    let Some(word) = words::next_word(s, 0) else {
+        return Ok(Line::Blank);
     };
-    let keyword = keyword_of(&s[start..end], begun);
-    if !is_known(keyword) {
-        return Line::Refused(unknown_word(begun));
-    }
-    read_slots(s, end, keyword)
-}
-
-fn is_known(keyword: Keyword) -> bool
-    ensures { result ≡ is_known keyword }
-{
-    match keyword {
-        Keyword::Pool => true,
-        Keyword::Get => true,
-        Keyword::Poll => true,
-        Keyword::Release => true,
-        Keyword::Cancel => true,
-        Keyword::Tick => true,
-        Keyword::Unknown => false,
+    match keyword_of(&s[word.start..word.end], begun) {
+        Keyword::Unknown => Err(unknown_word(begun)),
+        keyword => read_slots(s, word.end, keyword),
     }
 }
 
@@ -87,129 +57,102 @@ fn unknown_word(begun: bool) -> Why
     ensures { result ≡ unknown begun }
 {
     if begun {
-        return Why::UnknownWord;
+        Why::UnknownWord
+    } else {
+        Why::NoPoolLine
     }
-    Why::NoPoolLine
 }
 
 // The first word of a line.
 fn keyword_of(word: &[u8], begun: bool) -> Keyword
     ensures { result ≡ keyword_of begun word.now }
 {
-    if begun {
-        return call_keyword(word);
-    }
-    if words::is_same(word, b"pool") {
-        return Keyword::Pool;
+    for keyword in known_words(begun) {
+        if words::is_same(word, keyword.text()) {
+            return *keyword;
+        }
     }
     Keyword::Unknown
 }
 
-fn call_keyword(word: &[u8]) -> Keyword
-    ensures { result ≡ keyword_of true word.now }
+// The words that a line may begin with.
+fn known_words(begun: bool) -> &'static [Keyword]
+    ensures { result.now ≡ known_words begun }
 {
-    if words::is_same(word, b"get") {
-        return Keyword::Get;
+    if begun {
+        &[
+            Keyword::Get,
+            Keyword::Poll,
+            Keyword::Release,
+            Keyword::Cancel,
+            Keyword::Tick,
+        ]
+    } else {
+        &[Keyword::Pool]
     }
-    if words::is_same(word, b"poll") {
-        return Keyword::Poll;
-    }
-    if words::is_same(word, b"release") {
-        return Keyword::Release;
-    }
-    if words::is_same(word, b"cancel") {
-        return Keyword::Cancel;
-    }
-    if words::is_same(word, b"tick") {
-        return Keyword::Tick;
-    }
-    Keyword::Unknown
 }
 
 // The line of a first word, from the words behind it.
-fn read_slots(s: &[u8], from: usize, keyword: Keyword) -> Line
+fn read_slots(s: &[u8], from: usize, keyword: Keyword) -> Result<Line, Why>
     ensures { result ≡ made keyword (take_slots (form keyword) (words_in (drop from s.now))) }
 {
-    let count = log_text::slot_count(keyword);
-    let mut arguments = [0u64; 4];
+    let mut arguments = [0; 4];
     let mut at = from;
-    let mut i: usize = 0;
-    while i < count {
-        let slot = log_text::slot_at(keyword, i);
-        let read = read_slot(s, at, slot);
-        let Argument::Taken(v, next) = read else {
-            return refusal(read);
-        };
-        arguments[i] = v;
-        at = next;
-        i += 1;
+    for (i, slot) in keyword.form().iter().enumerate() {
+        let argument = read_slot(s, at, *slot)?;
+        arguments[i] = argument.value;
+        at = argument.next;
     }
-    finish(
-        s,
-        at,
-        keyword,
-        arguments[0],
-        arguments[1],
-        arguments[2],
-        arguments[3],
-    )
-}
-
-fn refusal(read: Argument) -> Line
-    ensures { result ≡ refusal_of read }
-{
-    match read {
-        Argument::Taken(_, _) => Line::Blank,
-        Argument::Refused(why) => Line::Refused(why),
-    }
+    finish(s, at, keyword, arguments)
 }
 
 // The line of a first word and its arguments, if no word is left from the place `at` on.
-fn finish(s: &[u8], at: usize, keyword: Keyword, a: u64, b: u64, c: u64, d: u64) -> Line
-    requires { Bounded (form keyword) (a ∷ b ∷ c ∷ d ∷ []) }
-    ensures { result ≡ made keyword (Arguments·taken (a ∷ b ∷ c ∷ d ∷ []) (words_in (drop at s.now))) }
+fn finish(s: &[u8], at: usize, keyword: Keyword, arguments: [u64; 4]) -> Result<Line, Why>
+    requires { Bounded (form keyword) arguments }
+    ensures { result ≡ made keyword (Ok (arguments, words_in (drop at s.now))) }
 {
-    let word = words::next_word(s, at);
-    let Place::At(start, end) = word else {
-        return line_from(keyword, a, b, c, d);
+    let Some(word) = words::next_word(s, at) else {
+        return line_from(keyword, arguments);
     };
-    let numeral = words::read_numeral(&s[start..end], NUMBER_MOST);
-    Line::Refused(extra_word(numeral))
+    let numeral = words::read_numeral(&s[word.start..word.end], NUMBER_MOST);
+    Err(extra_word(numeral))
 }
 
-fn extra_word(numeral: Numeral) -> Why
+fn extra_word(numeral: Result<u32, NumeralError>) -> Why
     ensures { result ≡ extra numeral }
 {
     match numeral {
-        Numeral::Value(_) => Why::TooManyNumbers,
-        Numeral::TooLarge => Why::TooManyNumbers,
-        Numeral::Other => Why::UnknownWord,
+        Ok(_) | Err(NumeralError::TooLarge) => Why::TooManyNumbers,
+        Err(NumeralError::NotDigits) => Why::UnknownWord,
     }
 }
 
-// What a line says, from its first word and the arguments a, b, c and d, as many as it has slots.
-fn line_from(keyword: Keyword, a: u64, b: u64, c: u64, d: u64) -> Line
-    requires { Bounded (form keyword) (a ∷ b ∷ c ∷ d ∷ []) }
-    ensures { result ≡ line_from keyword a b c d }
+// What a line says, from its first word and an argument for each of its slots.
+fn line_from(keyword: Keyword, arguments: [u64; 4]) -> Result<Line, Why>
+    requires { Bounded (form keyword) arguments }
+    ensures { result ≡ made keyword (Ok (arguments, [])) }
 {
-    match keyword {
-        Keyword::Pool => Line::Pool(a as u32, order_with(b)),
-        Keyword::Get => Line::Call(get_with(a as u32, b as u32, c, d)),
-        Keyword::Poll => Line::Call(poll_with(a as u32, b as u32, c)),
-        Keyword::Release => Line::Call(Record::Release(a as u32)),
-        Keyword::Cancel => Line::Call(Record::Cancel(a as u32)),
-        Keyword::Tick => Line::Call(Record::Tick),
-        Keyword::Unknown => Line::Refused(Why::UnknownWord),
-    }
+    let [a, b, c, d] = arguments;
+    let record = match keyword {
+        Keyword::Pool => return Ok(Line::Pool(a as u32, order_with(b))),
+        Keyword::Get => get_with(a as u32, b as u32, c, d),
+        Keyword::Poll => poll_with(a as u32, b as u32, c),
+        Keyword::Release => Record::Release(a as u32),
+        Keyword::Cancel => Record::Cancel(a as u32),
+        Keyword::Tick => Record::Tick,
+        Keyword::Unknown => return Err(Why::UnknownWord),
+    };
+    Ok(Line::Call(record))
 }
 
 fn order_with(argument: u64) -> u16
     ensures { result ≡ order_with argument }
 {
     if argument == 0 {
-        return FIFO_ORDER;
+        FIFO_ORDER
+    } else {
+        PRIORITY_ORDER
     }
-    PRIORITY_ORDER
 }
 
 fn get_with(task: u32, size: u32, limit: u64, priority: u64) -> Record
@@ -234,60 +177,55 @@ fn poll_with(task: u32, size: u32, priority: u64) -> Record
 }
 
 // What a slot takes from the words from the place `at` on.
-fn read_slot(s: &[u8], at: usize, slot: Slot) -> Argument
+fn read_slot(s: &[u8], at: usize, slot: Slot) -> Result<Argument, Why>
     ensures { seen s.now result ≡ take_slot slot (words_in (drop at s.now)) }
 {
     match slot {
         Slot::Number => read_number(s, at, NUMBER_MOST),
         Slot::Limit => read_option(s, at, b"limit", LIMIT_MOST),
         Slot::Priority => read_option(s, at, b"priority", NUMBER_MOST),
-        Slot::Order => read_flag(s, at, b"priority"),
+        Slot::Order => Ok(read_flag(s, at, b"priority")),
     }
 }
 
-fn read_number(s: &[u8], at: usize, most: u32) -> Argument
+fn read_number(s: &[u8], at: usize, most: u32) -> Result<Argument, Why>
     ensures { seen s.now result ≡ take_number most (words_in (drop at s.now)) }
 {
-    let word = words::next_word(s, at);
-    let Place::At(start, end) = word else {
-        return Argument::Refused(Why::MissingNumber);
-    };
-    let numeral = words::read_numeral(&s[start..end], most);
-    match numeral {
-        Numeral::Value(v) => Argument::Taken(v as u64, end),
-        Numeral::TooLarge => Argument::Refused(Why::NumberTooLarge),
-        Numeral::Other => Argument::Refused(Why::MissingNumber),
+    let word = words::next_word(s, at).ok_or(Why::MissingNumber)?;
+    match words::read_numeral(&s[word.start..word.end], most) {
+        Ok(v) => Ok(Argument {
+            value: u64::from(v),
+            next: word.end,
+        }),
+        Err(NumeralError::TooLarge) => Err(Why::NumberTooLarge),
+        Err(NumeralError::NotDigits) => Err(Why::MissingNumber),
     }
 }
 
 // A word and a number, or nothing.
-fn read_option(s: &[u8], at: usize, name: &[u8], most: u32) -> Argument
+fn read_option(s: &[u8], at: usize, name: &[u8], most: u32) -> Result<Argument, Why>
     ensures { seen s.now result ≡ take_option name.now most (words_in (drop at s.now)) }
 {
-    let word = words::next_word(s, at);
-    let Place::At(start, end) = word else {
-        return Argument::Taken(0, at);
-    };
-    if !words::is_same(&s[start..end], name) {
-        return Argument::Taken(0, at);
+    let flag = read_flag(s, at, name);
+    if flag.value == 0 {
+        return Ok(flag);
     }
-    let number = read_number(s, end, most);
-    let Argument::Taken(v, next) = number else {
-        return number;
-    };
-    Argument::Taken(v + 1, next)
+    let number = read_number(s, flag.next, most)?;
+    Ok(Argument {
+        value: number.value + 1,
+        ..number
+    })
 }
 
 // A word, or nothing.
 fn read_flag(s: &[u8], at: usize, name: &[u8]) -> Argument
-    ensures { seen s.now result ≡ take_word name.now (words_in (drop at s.now)) }
+    ensures { seen s.now (Ok result) ≡ take_word name.now (words_in (drop at s.now)) }
 {
-    let word = words::next_word(s, at);
-    let Place::At(start, end) = word else {
-        return Argument::Taken(0, at);
-    };
-    if !words::is_same(&s[start..end], name) {
-        return Argument::Taken(0, at);
+    match words::next_word(s, at) {
+        Some(word) if words::is_same(&s[word.start..word.end], name) => Argument {
+            value: 1,
+            next: word.end,
+        },
+        _ => Argument { value: 0, next: at },
     }
-    Argument::Taken(1, end)
 }

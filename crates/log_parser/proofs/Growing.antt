@@ -1,14 +1,14 @@
 -- What was read so far, in bytes, and what each line adds to it. Assumes nothing.
 use Prim.Native.Nat.{ℕ, ◌+◌, ◌*◌, ◌≤◌}
 use mathlib.Core.Path.{◌≡◌, refl, sym, ap, ◌∙◌}
-use mathlib.Core.Bool.{true, false}
 use mathlib.Core.List.{List, [], ◌∷◌, ◌++◌, append_assoc, append-nil}
 use mathlib.Core.Option.{Option, none, some}
 use native.Mathlib.Omega.{arith}
 use lib.Dec.{ltb}
 use lib.ListN.{length, length-append}
 use borrow.Author.Tests.{lt-ltb}
-use Rattle.numbers.specs.Wrote.{Wrote}
+use Rattle.std.specs.Prelude.{Result, Ok, Err}
+use Rattle.output.specs.Wrote.{Wrote}
 use Rattle.numbers.proofs.Theorems.{encode-length}
 use Rattle.numbers.specs.Number.{encode}
 use Rattle.call_log.specs.declared.Record.{Record}
@@ -19,10 +19,11 @@ use Rattle.call_log.proofs.Theorems.{encode-record-length}
 use Rattle.call_log.proofs.LogTheorems.{log-length, log-most}
 use Rattle.text.specs.Words.{words_of}
 use Rattle.log_text.specs.declared.Line.{Line}
-use Rattle.log_text.specs.declared.Line.TheVariants.{Blank, Pool, Call, Refused}
-use Rattle.log_text.specs.Reading.{is_begun, record_count, line_of, line_after, with_line, Parsed, Parsed·log, go_on, parse_lines}
+use Rattle.log_text.specs.declared.Line.TheVariants.{Blank, Pool, Call}
+use Rattle.log_text.specs.declared.Why.{Why}
+use Rattle.log_text.specs.Reading.{is_begun, record_count, line_of, line_after, with_line, Parsed·log, parse_lines}
 use Rattle.log_text.proofs.Lines.{Fit, line-fits, Sound, went, end_log}
-use Rattle.log_parser.specs.Steps.{is_refused, refused_at, line_bytes, call_count, measured}
+use Rattle.log_parser.specs.Steps.{line_bytes, call_count}
 
 pub wrote_nothing : (buf : List ℕ) (at : ℕ) → Wrote buf at [] buf at
 wrote_nothing buf at = record { place = omega arith; stored = refl }
@@ -38,40 +39,34 @@ unfolding encode_records
 encode_snoc [] r = append-nil (encode_record r)
 encode_snoc (q ∷ rs) r = rw (encode_snoc rs r, append_assoc (encode_record q) (encode_records rs) (encode_record r))
 
-pub bytes_next : (x : Option Log) (y : Line) → Fit x y → log_bytes (with_line x y) ≡ log_bytes x ++ line_bytes y
+pub bytes_next : (x : Option Log) (y : Line) → Fit x (Ok y) → log_bytes (with_line x (Ok y)) ≡ log_bytes x ++ line_bytes y
 unfolding encode_records
 bytes_next none Blank f = refl
 bytes_next none (Pool n order) f = append-nil (start_bytes n order)
 bytes_next none (Call r) f = absurd f
-bytes_next none (Refused why) f = refl
 bytes_next (some l) Blank f = sym (append-nil (bytes_of l))
 bytes_next (some l) (Pool n order) f = absurd f
 bytes_next (some l) (Call r) f = rw (encode_snoc l.records r, append_assoc (start_bytes l.long l.order) (encode_records l.records) (encode_record r))
-bytes_next (some l) (Refused why) f = sym (append-nil (bytes_of l))
 
-pub size_next : (x : Option Log) (y : Line) → Fit x y → length (log_bytes (with_line x y)) ≡ length (log_bytes x) + length (line_bytes y)
+pub size_next : (x : Option Log) (y : Line) → Fit x (Ok y) → length (log_bytes (with_line x (Ok y))) ≡ length (log_bytes x) + length (line_bytes y)
 size_next x y f = ap length (bytes_next x y f) ∙ length-append (log_bytes x) (line_bytes y)
 
-pub count_next : (x : Option Log) (y : Line) → Fit x y → record_count (with_line x y) ≡ record_count x + call_count y
+pub count_next : (x : Option Log) (y : Line) → Fit x (Ok y) → record_count (with_line x (Ok y)) ≡ record_count x + call_count y
 count_next none Blank f = refl
 count_next none (Pool n order) f = refl
 count_next none (Call r) f = absurd f
-count_next none (Refused why) f = refl
 count_next (some l) Blank f = omega arith
 count_next (some l) (Pool n order) f = absurd f
 count_next (some l) (Call r) f = length-append l.records (r ∷ [])
-count_next (some l) (Refused why) f = omega arith
 
 -- a line adds a few bytes
-pub line-short : (x : Option Log) (y : Line) → Fit x y → length (line_bytes y) ≤ 32
+pub line-short : (x : Option Log) (y : Line) → Fit x (Ok y) → length (line_bytes y) ≤ 21
 line-short none Blank f = omega arith
 line-short none (Pool n order) f = omega (arith, start_most n order f.0)
 line-short none (Call r) f = absurd f
-line-short none (Refused why) f = omega arith
 line-short (some l) Blank f = omega arith
 line-short (some l) (Pool n order) f = absurd f
 line-short (some l) (Call r) f = omega (arith, encode-record-length r f.0)
-line-short (some l) (Refused why) f = omega arith
 
 pub bytes_most : (x : Option Log) → Sound x → length (log_bytes x) ≤ 6 + 21 * record_count x
 bytes_most none s = omega arith
@@ -91,18 +86,10 @@ bytes_begun (some l) s =
 
 -- ---- line by line
 
--- a line that is refused ends the reading, and any other does not
-pub go_refused : (k : ℕ) (y : Line) (rest : Parsed) → is_refused y ≡ true → refused_at k y ≡ measured (go_on k y rest)
-go_refused k (Refused why) rest e = refl
-go_refused k Blank rest e = let z : ◌≡◌ {A = ℕ} 0 1 = cc in absurd (omega arith)
-go_refused k (Pool n order) rest e = let z : ◌≡◌ {A = ℕ} 0 1 = cc in absurd (omega arith)
-go_refused k (Call r) rest e = let z : ◌≡◌ {A = ℕ} 0 1 = cc in absurd (omega arith)
-
-pub go_on_lem : (k : ℕ) (y : Line) (rest : Parsed) → is_refused y ≡ false → go_on k y rest ≡ rest
-go_on_lem k Blank rest e = refl
-go_on_lem k (Pool n order) rest e = refl
-go_on_lem k (Call r) rest e = refl
-go_on_lem k (Refused why) rest e = let z : ◌≡◌ {A = ℕ} 0 1 = cc in absurd (omega arith)
+-- no line takes bytes from the log
+grown : (x : Option Log) (y : Result Line Why) → Fit x y → length (log_bytes x) ≤ length (log_bytes (with_line x y))
+grown x (Ok y) f = omega (arith, size_next x y f)
+grown x (Err why) f = omega arith
 
 -- the log has at least the bytes that were read
 pub lines-most : (ls : List (List ℕ)) (k : ℕ) (x : Option Log) (l : Log) → parse_lines k x ls ≡ Parsed·log l → length (log_bytes x) ≤ length (bytes_of l)
@@ -111,4 +98,4 @@ lines-most [] k x l e = rw (end_log k x l e) (omega arith)
 lines-most (m ∷ ls) k x l e =
     let y = line_after x m in
     let w = went k (record_count x) (line_of (is_begun x) (words_of m)) (parse_lines (k + 1) (with_line x y) ls) l e in
-    omega (arith, size_next x y (line-fits x m), lines-most ls (k + 1) (with_line x y) l w.others)
+    omega (arith, grown x y (line-fits x m), lines-most ls (k + 1) (with_line x y) l w.others)

@@ -1,3 +1,4 @@
+pub mod Splitting
 pub mod Growing
 pub mod Measuring
 pub mod Storing

@@ -1,21 +1,19 @@
 -- What the parser answers, and what it leaves in the buffer.
-use Rattle.std.specs.Prelude.{ℕ, List}
-use Rattle.numbers.specs.Fill.{Outcome, Content, Content·bytes, Content·refused, fill}
+use Rattle.std.specs.Prelude.{ℕ, List, Result, Ok, Err}
+use Rattle.output.specs.Fill.{Outcome, Content, Content·bytes, Content·refused, fill}
 use Rattle.call_log.specs.Log.{bytes_of}
-use Rattle.log_text.specs.Reading as reading
-use Rattle.log_text.specs.Reading.{parse, Parsed·log, Parsed·refused, Parsed·tooLong}
-use Rattle.log_parser.specs.declared.Parsed as answer
-use Rattle.log_parser.specs.declared.Parsed.TheVariants.{Refused, TooLong, NoRoom}
-use Rattle.log_parser.specs.declared.Parsed.TheVariants as variant
+use Rattle.log_text.specs.Reading.{Parsed, parse, Parsed·log, Parsed·refused, Parsed·tooLong}
+use Rattle.log_parser.specs.declared.ParseError.{ParseError}
+use Rattle.log_parser.specs.declared.ParseError.TheVariants.{Refused, TooLong, NoRoom}
 
 -- the bytes of the log, or the refusal
-abbrev pub as_log : reading.Parsed → Content answer.Parsed
+abbrev pub as_log : Parsed → Content (Result ℕ ParseError)
 as_log (Parsed·log l) = Content·bytes (bytes_of l)
-as_log (Parsed·refused k why) = Content·refused (Refused k why)
-as_log Parsed·tooLong = Content·refused TooLong
+as_log (Parsed·refused k why) = Content·refused (Err (Refused k why))
+as_log Parsed·tooLong = Content·refused (Err TooLong)
 
-abbrev pub parsed : reading.Parsed → List ℕ → Outcome answer.Parsed
-parsed p buf = fill variant.Log NoRoom (as_log p) buf
+abbrev pub parsed : Parsed → List ℕ → Outcome (Result ℕ ParseError)
+parsed p buf = fill Ok (Err NoRoom) (as_log p) buf
 
-abbrev pub parse_text : List ℕ → List ℕ → Outcome answer.Parsed
+abbrev pub parse_text : List ℕ → List ℕ → Outcome (Result ℕ ParseError)
 parse_text text buf = parsed (parse text) buf

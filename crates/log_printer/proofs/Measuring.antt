@@ -7,16 +7,14 @@ use native.Mathlib.Nat.{add-zero, zero-add}
 use lib.ListN.{length, drop, length-drop}
 use lib.Seq.{drop-drop}
 use borrow.Author.Tests.{lt-ltb, le-ltb}
+use Rattle.std.specs.Prelude.{Ok, Err}
 use Rattle.call_log.specs.declared.Record.{Record}
-use Rattle.call_log.specs.declared.Read.{Read}
-use Rattle.call_log.specs.declared.Read.TheVariants.{Taken, End, Bad}
-use Rattle.call_log.specs.Record.{record_of}
+use Rattle.call_log.specs.Record.{record_of, taken, end, bad}
 use Rattle.call_log.specs.Log.{most_records}
-use Rattle.call_log.proofs.Reading.{NoRecord, no_record}
 use Rattle.call_log.proofs.Theorems.{record-length, record_expressible}
 use Rattle.log_text.specs.Printing.{parts_of, parts_text, longest_line, print_records}
-use Rattle.log_printer.specs.declared.Printed.TheVariants.{TooMany}
-use Rattle.log_printer.specs.Steps.{measured, stopped}
+use Rattle.log_printer.specs.declared.PrintError.TheVariants.{Bad, TooMany}
+use Rattle.log_printer.specs.Steps.{measured}
 use Rattle.log_text.proofs.Widths.{record-short}
 use Rattle.log_text.proofs.Records.{print_skip, print_end, print_bad, print_taken}
 use Rattle.log_printer.proofs.Records.{measured_front}
@@ -37,13 +35,14 @@ measuring_start log place first h l = record {
 }
 
 module _ {log : List ℕ} {place first at count m : ℕ} (g : Measuring log place first at count m) where
-  pub measuring_stop : (x : Read) → record_of (drop at log) ≡ x → NoRecord x → stopped x at m ≡ measured first (print_records place 0 0 log)
-  measuring_stop End e other = sym (g.same ∙ rw (print_end at count (drop at log) e, add-zero m))
-  measuring_stop Bad e other = sym (g.same ∙ rw (print_bad at count (drop at log) e))
-  measuring_stop (Taken r n) e other = no_record r n other
+  pub measuring_end : record_of (drop at log) ≡ end → Ok m ≡ measured first (print_records place 0 0 log)
+  measuring_end e = sym (g.same ∙ rw (print_end at count (drop at log) e, add-zero m))
 
-  module _ (r : Record) (n : ℕ) (e : record_of (drop at log) ≡ Taken r n) where
-    pub measuring_many : most_records ≤ count → TooMany ≡ measured first (print_records place 0 0 log)
+  pub measuring_bad : record_of (drop at log) ≡ bad → Err (Bad at) ≡ measured first (print_records place 0 0 log)
+  measuring_bad e = sym (g.same ∙ rw (print_bad at count (drop at log) e))
+
+  module _ (r : Record) (n : ℕ) (e : record_of (drop at log) ≡ taken r n) where
+    pub measuring_many : most_records ≤ count → Err TooMany ≡ measured first (print_records place 0 0 log)
     measuring_many h = sym (g.same ∙ rw (print_taken at count (drop at log) r n e, le-ltb count most_records h))
 
     pub measuring_next : count < most_records → (b : ℕ) → b ≡ length (parts_text (parts_of r)) → Measuring log place first (at + n) (count + 1) (m + b)

@@ -7,16 +7,14 @@ use native.Mathlib.Omega.{arith}
 use native.Mathlib.Nat.{zero-add}
 use lib.Dec.{leb, ltb}
 use lib.ListN.{length, drop}
+use Rattle.std.specs.Prelude.{Option, Some, None, Ok, Err}
 use Rattle.model.specs.declared.Attributes.{Attributes}
 use Rattle.model.specs.Rules.{rules}
 use Rattle.model.specs.Pool.{Stored, perform}
 use Rattle.model.proofs.Tests.{by}
 use Rattle.call_log.specs.declared.Start.{Start}
-use Rattle.call_log.specs.declared.Start.TheVariants as start
-use Rattle.call_log.specs.declared.Read.{Read}
-use Rattle.call_log.specs.declared.Read.TheVariants.{Taken, End, Bad}
-use Rattle.call_log.specs.Record.{record_of}
-use Rattle.call_log.specs.Log.{most_records, start_of}
+use Rattle.call_log.specs.Record.{Read, record_of}
+use Rattle.call_log.specs.Log.{most_records, start, start_of}
 use Rattle.transcript.specs.Lines.{pool_line, bad_line}
 use Rattle.transcript.specs.Transcript as replayed
 use Rattle.transcript.specs.Transcript.{call_of, answer_text, records_text, fresh_pool, with_order, transcript_of}
@@ -41,9 +39,11 @@ module _ (b : ℕ) (s : List ℕ) (at count k : ℕ) (st : Stored) (p : ℕ)
     (ih : (n c j : ℕ) (t : Stored) → print_records n (at + 1) c s ≡ Printed·bad p → EndsBad (records_text n (at + 1) j t s) p) where
   at-record : (x : Read) → record_of (b ∷ s) ≡ x → print_records 0 at count (b ∷ s) ≡ Printed·bad p → EndsBad (records_text 0 at k st (b ∷ s)) p
   unfolding print_records records_text
-  at-record End q e = let f = rw (q, print_records) at e in let z : ◌≡◌ {A = ℕ} 0 1 = cc in absurd (omega arith)
-  at-record Bad q e = let f = rw (q, print_records) at e in let same : at ≡ p = cc in record { before = []; whole = rw (q, records_text, same) }
-  at-record (Taken r n) q e =
+  at-record (Ok None) q e = let f = rw (q, print_records) at e in let z : ◌≡◌ {A = ℕ} 0 1 = cc in absurd (omega arith)
+  at-record (Err x) q e = let f = rw (q, print_records) at e in let same : at ≡ p = cc in record { before = []; whole = rw (q, records_text, same) }
+  at-record (Ok (Some taken)) q e =
+      let r = taken.record in
+      let n = taken.size in
       by (ltb count most_records)
       (λ h.
       let f : in_front (parts_text (parts_of r)) (print_records (n - 1) (at + 1) (count + 1) s) ≡ Printed·bad p = rw (q, print_records, h) at e in
@@ -65,10 +65,13 @@ records-place (b ∷ s) zero at count k st p e = at-record b s at count k st p (
 
 -- a log that is not too long to be replayed, and whose pool, if it says one, create takes with the attributes
 module _ (a : Attributes) (log : List ℕ) (fits : length log ≤ replayed.longest_log)
-    (taken : (n order place : ℕ) → start_of log ≡ start.Taken n order place → (rules (with_order order a) n).valid ≡ true) (p : ℕ) where
-  by_start : (x : Start) → start_of log ≡ x → print_start x log ≡ Printed·bad p → EndsBad (transcript_of a log) p
-  by_start start.Bad q e = let same : 0 ≡ p = cc in record { before = []; whole = rw (← same) (transcript_bad a log fits q) }
-  by_start (start.Taken n order place) q e =
+    (taken : (n order place : ℕ) → start_of log ≡ start n order place → (rules (with_order order a) n).valid ≡ true) (p : ℕ) where
+  by_start : (x : Option Start) → start_of log ≡ x → print_start x log ≡ Printed·bad p → EndsBad (transcript_of a log) p
+  by_start None q e = let same : 0 ≡ p = cc in record { before = []; whole = rw (← same) (transcript_bad a log fits q) }
+  by_start (Some head) q e =
+      let n = head.length in
+      let order = head.order in
+      let place = head.size in
       let f = front_bad (parts_text (pool_parts n order)) (print_records place 0 0 log) e in
       let g : print_records 0 place 0 (drop place log) ≡ Printed·bad p = sym (print_skip place 0 0 log ∙ rw (zero-add place)) ∙ f in
       let pool = (fresh_pool (with_order order a) n).state in

@@ -2,25 +2,26 @@
 #![tactic(auto)]
 
 ghost use Rattle.std.specs.Prelude.{◌+◌, ◌≤◌, ◌≡◌, ◌++◌, length};
-ghost use Rattle.numbers.specs.Wrote.{Wrote};
-ghost use Rattle.numbers.specs.Fill.{outcome};
+ghost use Rattle.output.specs.Puts.{Room, Puts};
+ghost use Rattle.output.specs.Fill.{outcome};
 ghost use Rattle.text.specs.Ascii.{ascii};
 ghost use Rattle.text.specs.Decimal.{decimal};
-ghost use Rattle.log_text.specs.Form.{keyword_text};
 ghost use Rattle.log_text.specs.Printing.{longest_line, parts, pool_parts, parts_of, option_words, flag_words, slot_words, spaced, parts_text, print_records};
 ghost use Rattle.log_printer.specs.Printer.{print_log};
-ghost use Rattle.log_printer.specs.Steps.{measured, stopped, text_in, Room};
+ghost use Rattle.log_printer.specs.Steps.{measured, text_in, RoomFor};
 
-use call_log::{MOST_RECORDS, Read, Record, Start};
+use call_log::{MOST_RECORDS, Record, limit_field};
 use log_text::{Keyword, LONGEST_LOG, Parts, Slot};
+use output::Output;
 
 pub mod response;
 
-// What the printer answers.
-#[derive(Clone, Copy)]
-pub enum Printed {
-    // the length of the text
-    Text(usize),
+// The most bytes of a line: a get with four numbers of ten digits.
+const LONGEST_LINE: usize = 63;
+
+// Why a log has no text.
+#[derive(Clone, Copy, Debug, PartialEq, Eq)]
+pub enum PrintError {
     // the place of the first record that can't be read
     Bad(usize),
     // more than MOST_RECORDS records
@@ -31,61 +32,43 @@ pub enum Printed {
     NoRoom,
 }
 
-// Writes the canonical text of a log into buf. A refusal keeps every byte of buf.
-pub fn print_log(log: &[u8], buf: &mut [u8]) -> Printed
+// Writes the canonical text of a log into buf, and answers its length. An error keeps every byte of buf.
+pub fn print_log(log: &[u8], buf: &mut [u8]) -> Result<usize, PrintError>
     ensures { outcome result buf.new ≡ print_log log.now buf.old }
 {
     if LONGEST_LOG < log.len() {
-        return Printed::TooLong;
+        return Err(PrintError::TooLong);
     }
-    let begun = call_log::read_start(log);
-    let Start::Taken(n, order, place) = begun else {
-        return Printed::Bad(0);
-    };
-    let first = line_length(pool_parts(n, order));
-    let measured = measure(log, place, first);
-    let Printed::Text(length) = measured else {
-        return measured;
-    };
+    let start = call_log::read_start(log).ok_or(PrintError::Bad(0))?;
+    let first = pool_parts(start.length, start.order);
+    let length = measure(log, start.size, line_length(first))?;
     if buf.len() < length {
-        return Printed::NoRoom;
+        return Err(PrintError::NoRoom);
     }
-    let at = put_line(buf, 0, pool_parts(n, order));
-    put_records(buf, at, log, place);
-    Printed::Text(length)
+    let mut out = Output::new(buf);
+    put_line(&mut out, first);
+    put_records(&mut out, log, start.size);
+    Ok(out.end)
 }
 
 // The length of the text of the records from `place` on, behind `first` bytes; or why they are refused.
-fn measure(log: &[u8], place: usize, first: usize) -> Printed
+fn measure(log: &[u8], place: usize, first: usize) -> Result<usize, PrintError>
     requires { (place ≤ length log.now) × (first ≤ longest_line) }
     ensures { result ≡ measured first (print_records place 0 0 log.now) }
 {
     let mut at = place;
     let mut count: usize = 0;
     let mut length = first;
-    loop {
-        let read = call_log::read_record(&log[at..]);
-        let Read::Taken(item, size) = read else {
-            return stop(read, at, length);
-        };
+    // from record to record, by the place that an error tells
+    while let Some(taken) = call_log::read_record(&log[at..]).map_err(|_| PrintError::Bad(at))? {
         if MOST_RECORDS <= count {
-            return Printed::TooMany;
+            return Err(PrintError::TooMany);
         }
-        length += line_length(parts_of(item));
-        at += size;
+        length += line_length(parts_of(taken.record));
+        at += taken.size;
         count += 1;
     }
-}
-
-// What is answered behind the last record that can be read, at the place `at` and behind `size` bytes of text.
-fn stop(read: Read, at: usize, size: usize) -> Printed
-    ensures { result ≡ stopped read at size }
-{
-    match read {
-        Read::End => Printed::Text(size),
-        Read::Bad => Printed::Bad(at),
-        Read::Taken(_, _) => Printed::Text(size),
-    }
+    Ok(length)
 }
 
 // How many bytes a line has.
@@ -93,24 +76,22 @@ fn line_length(parts: Parts) -> usize
     requires { length (parts_text parts) ≤ longest_line }
     ensures { result ≡ length (parts_text parts) }
 {
-    let mut line = [0u8; 63];
-    put_line(&mut line, 0, parts)
+    let mut line = [0; LONGEST_LINE];
+    let mut out = Output::new(&mut line);
+    put_line(&mut out, parts);
+    out.end
 }
 
-// Writes the records from `place` on from the place `at` of buf on, and answers the place after them.
-fn put_records(buf: &mut [u8], at: usize, log: &[u8], place: usize) -> usize
-    requires { Room log.now place buf.old at }
-    ensures { Wrote buf.old at (text_in (print_records place 0 0 log.now)) buf.new result }
+// Writes the records from `place` on.
+fn put_records(out: &mut Output, log: &[u8], place: usize)
+    requires { RoomFor log.now place out.old }
+    ensures { Puts out.old (text_in (print_records place 0 0 log.now)) out.new }
 {
-    let mut end = at;
     let mut next = place;
-    loop {
-        let read = call_log::read_record(&log[next..]);
-        let Read::Taken(item, size) = read else {
-            return end;
-        };
-        end = put_line(buf, end, parts_of(item));
-        next += size;
+    // from record to record, by its place; every record of a log that has a text can be read
+    while let Some(taken) = call_log::read_record(&log[next..]).unwrap() {
+        put_line(out, parts_of(taken.record));
+        next += taken.size;
     }
 }
 
@@ -118,7 +99,7 @@ fn put_records(buf: &mut [u8], at: usize, log: &[u8], place: usize) -> usize
 fn pool_parts(n: u32, order: u16) -> Parts
     ensures { result ≡ pool_parts n order }
 {
-    make_parts(Keyword::Pool, n, order as u32, 0, 0)
+    make_parts(Keyword::Pool, n, u32::from(order), 0, 0)
 }
 
 // The line of a record.
@@ -127,19 +108,18 @@ fn parts_of(item: Record) -> Parts
 {
     match item {
         Record::Get(task, size, limit) => {
-            let field = call_log::limit_field(limit);
-            make_parts(Keyword::Get, task, size, field as u64, 0)
+            make_parts(Keyword::Get, task, size, u64::from(limit_field(limit)), 0)
         }
         Record::Poll(task, size) => make_parts(Keyword::Poll, task, size, 0, 0),
         Record::Release(offset) => make_parts(Keyword::Release, offset, 0, 0, 0),
         Record::Cancel(task) => make_parts(Keyword::Cancel, task, 0, 0, 0),
         Record::Tick => make_parts(Keyword::Tick, 0, 0, 0, 0),
         Record::PriorityGet(task, size, limit, priority) => {
-            let field = call_log::limit_field(limit);
-            make_parts(Keyword::Get, task, size, field as u64, priority as u64 + 1)
+            let field = u64::from(limit_field(limit));
+            make_parts(Keyword::Get, task, size, field, u64::from(priority) + 1)
         }
         Record::PriorityPoll(task, size, priority) => {
-            make_parts(Keyword::Poll, task, size, priority as u64 + 1, 0)
+            make_parts(Keyword::Poll, task, size, u64::from(priority) + 1, 0)
         }
     }
 }
@@ -148,95 +128,73 @@ fn make_parts(keyword: Keyword, a: u32, b: u32, c: u64, d: u64) -> Parts
     ensures { result ≡ parts keyword a b c d }
 {
     Parts {
-        keyword: keyword,
-        arguments: [a as u64, b as u64, c, d],
+        keyword,
+        arguments: [u64::from(a), u64::from(b), c, d],
     }
 }
 
-// Writes a line from the place `at` of buf on, and answers the place after it. So do the functions below, of a part of a line.
-fn put_line(buf: &mut [u8], at: usize, parts: Parts) -> usize
-    requires { at + length (parts_text parts) ≤ length buf.old }
-    ensures { Wrote buf.old at (parts_text parts) buf.new result }
+// Writes a line.
+fn put_line(out: &mut Output, parts: Parts)
+    requires { Room (length (parts_text parts)) out.old }
+    ensures { Puts out.old (parts_text parts) out.new }
 {
-    let keyword = parts.keyword;
-    let arguments = parts.arguments;
-    let count = log_text::slot_count(keyword);
-    let mut end = put_keyword(buf, at, keyword);
-    let mut i: usize = 0;
-    while i < count {
-        let slot = log_text::slot_at(keyword, i);
-        end = put_slot(buf, end, slot, arguments[i]);
-        i += 1;
+    out.put(parts.keyword.text());
+    for (i, slot) in parts.keyword.form().iter().enumerate() {
+        put_slot(out, *slot, parts.arguments[i]);
     }
-    text::put_text(buf, end, b"\n")
+    out.put(b"\n");
 }
 
-// The first word.
-fn put_keyword(buf: &mut [u8], at: usize, keyword: Keyword) -> usize
-    requires { at + length (keyword_text keyword) ≤ length buf.old }
-    ensures { Wrote buf.old at (keyword_text keyword) buf.new result }
-{
-    match keyword {
-        Keyword::Pool => text::put_text(buf, at, b"pool"),
-        Keyword::Get => text::put_text(buf, at, b"get"),
-        Keyword::Poll => text::put_text(buf, at, b"poll"),
-        Keyword::Release => text::put_text(buf, at, b"release"),
-        Keyword::Cancel => text::put_text(buf, at, b"cancel"),
-        Keyword::Tick => text::put_text(buf, at, b"tick"),
-        Keyword::Unknown => at,
-    }
-}
-
-// The words of a slot, a space in front of each.
-fn put_slot(buf: &mut [u8], at: usize, slot: Slot, v: u64) -> usize
-    requires { at + length (spaced (slot_words slot v)) ≤ length buf.old }
-    ensures { Wrote buf.old at (spaced (slot_words slot v)) buf.new result }
+// Writes the words of a slot, a space in front of each.
+fn put_slot(out: &mut Output, slot: Slot, argument: u64)
+    requires { Room (length (spaced (slot_words slot argument))) out.old }
+    ensures { Puts out.old (spaced (slot_words slot argument)) out.new }
 {
     match slot {
-        Slot::Number => put_number(buf, at, v),
-        Slot::Limit => put_option(buf, at, b"limit", v),
-        Slot::Priority => put_option(buf, at, b"priority", v),
-        Slot::Order => put_flag(buf, at, b"priority", v),
+        Slot::Number => put_number(out, argument),
+        Slot::Limit => put_option(out, b"limit", argument),
+        Slot::Priority => put_option(out, b"priority", argument),
+        Slot::Order => put_flag(out, b"priority", argument),
     }
 }
 
-// A word and a number, or nothing.
-fn put_option(buf: &mut [u8], at: usize, name: &[u8], v: u64) -> usize
-    requires { at + length (spaced (option_words name.now v)) ≤ length buf.old }
-    ensures { Wrote buf.old at (spaced (option_words name.now v)) buf.new result }
+// Writes a word and a number, or nothing.
+fn put_option(out: &mut Output, name: &[u8], argument: u64)
+    requires { Room (length (spaced (option_words name.now argument))) out.old }
+    ensures { Puts out.old (spaced (option_words name.now argument)) out.new }
 {
-    if v == 0 {
-        return at;
+    if argument == 0 {
+        return;
     }
-    let i = put_word(buf, at, name);
-    put_number(buf, i, v - 1)
+    put_word(out, name);
+    put_number(out, argument - 1);
 }
 
-// A word, or nothing.
-fn put_flag(buf: &mut [u8], at: usize, name: &[u8], v: u64) -> usize
-    requires { at + length (spaced (flag_words name.now v)) ≤ length buf.old }
-    ensures { Wrote buf.old at (spaced (flag_words name.now v)) buf.new result }
+// Writes a word, or nothing.
+fn put_flag(out: &mut Output, name: &[u8], argument: u64)
+    requires { Room (length (spaced (flag_words name.now argument))) out.old }
+    ensures { Puts out.old (spaced (flag_words name.now argument)) out.new }
 {
-    if v == 0 {
-        return at;
+    if argument == 0 {
+        return;
     }
-    put_word(buf, at, name)
+    put_word(out, name);
 }
 
-// A word.
-fn put_word(buf: &mut [u8], at: usize, word: &[u8]) -> usize
-    requires { at + 1 + length word.now ≤ length buf.old }
-    ensures { Wrote buf.old at (ascii " " ++ word.now) buf.new result }
+// Writes a word.
+fn put_word(out: &mut Output, word: &[u8])
+    requires { Room (1 + length word.now) out.old }
+    ensures { Puts out.old (ascii " " ++ word.now) out.new }
 {
-    let i = text::put_text(buf, at, b" ");
-    text::put_text(buf, i, word)
+    out.put(b" ");
+    out.put(word);
 }
 
-// A number.
-fn put_number(buf: &mut [u8], at: usize, v: u64) -> usize
-    requires { at + 1 + length (decimal v) ≤ length buf.old }
-    ensures { Wrote buf.old at (ascii " " ++ decimal v) buf.new result }
+// Writes a number.
+fn put_number(out: &mut Output, n: u64)
+    requires { Room (1 + length (decimal n)) out.old }
+    ensures { Puts out.old (ascii " " ++ decimal n) out.new }
 {
-    let i = text::put_text(buf, at, b" ");
-    text::put_decimal(buf, i, v as usize)
+    out.put(b" ");
+    text::put_decimal(out, n as usize);
 }

@@ -1,9 +1,12 @@
 // What the program writes for a log.
-ghost use Rattle.numbers.specs.Fill.{Responded};
-ghost use Rattle.log_printer.specs.Response.{response_for};
+ghost use Rattle.std.specs.Prelude.{◌+◌, ◌≤◌};
+ghost use Rattle.output.specs.Puts.{Room, Puts};
+ghost use Rattle.output.specs.Fill.{Responded};
+ghost use Rattle.log_printer.specs.Response.{refusal_line, response_for};
 
-use crate::Printed;
+use crate::PrintError;
 use log_text::Why;
+use output::Output;
 
 // No text that is printed has more bytes.
 pub const LONGEST_PRINTED: usize = 258111;
@@ -16,12 +19,25 @@ pub fn respond(log: &[u8], buf: &mut [u8]) -> usize
     if buf.len() < LONGEST_PRINTED {
         return 0;
     }
-    let printed = crate::print_log(log, buf);
-    match printed {
-        Printed::Text(length) => length,
-        Printed::Bad(place) => transcript::bad_line(buf, 0, place),
-        Printed::TooMany => log_text::put_why(buf, 0, Why::TooManyRecords),
-        Printed::TooLong => transcript::too_long_line(buf, 0),
-        Printed::NoRoom => 0,
+    match crate::print_log(log, buf) {
+        Ok(length) => length,
+        Err(error) => {
+            let mut out = Output::new(buf);
+            refusal_line(&mut out, error);
+            out.end
+        }
+    }
+}
+
+// Writes the line of a refusal. LONGEST_PRINTED bytes hold any text, so NoRoom has none.
+fn refusal_line(out: &mut Output, error: PrintError)
+    requires { Room 64 out.old }
+    ensures { Puts out.old (refusal_line (Err error)) out.new × (out.new.end ≤ out.old.end + 64) }
+{
+    match error {
+        PrintError::Bad(place) => transcript::bad_line(out, place),
+        PrintError::TooMany => log_text::put_why(out, Why::TooManyRecords),
+        PrintError::TooLong => transcript::too_long_line(out),
+        PrintError::NoRoom => {}
     }
 }

@@ -1,12 +1,13 @@
 -- What is read is not too large, and what is printed: the arguments of slots, and the records that they give. Assumes nothing.
 use Prim.Native.Nat.{ℕ, zero, suc, ◌+◌, ◌<◌, ◌≤◌}
-use mathlib.Core.Path.{◌≡◌, refl}
+use mathlib.Core.Path.{◌≡◌, refl, ap}
 use mathlib.Core.Bool.{true}
 use mathlib.Core.List.{List, [], ◌∷◌}
 use native.Mathlib.Omega.{arith}
 use lib.Dec.{leb, eqb}
 use lib.ListN.{length, get_or}
 use borrow.Author.Tests.{leb-true, eqb-true}
+use Rattle.std.specs.Prelude.{Result, Ok, Err}
 use Rattle.model.specs.Limits.{fifo_order}
 use Rattle.model.specs.Rules.{ok_order}
 use Rattle.model.proofs.Tests.{by}
@@ -15,8 +16,8 @@ use Rattle.call_log.specs.declared.Record.{Record}
 use Rattle.call_log.specs.declared.Record.TheVariants as record_of
 use Rattle.call_log.specs.Record.{limit_of, limit_field, fields_of, Expressible}
 use Rattle.call_log.proofs.Forms.{field_limit, limit_field_lem}
-use Rattle.text.specs.declared.words.Numeral.{Numeral}
-use Rattle.text.specs.declared.words.Numeral.TheVariants.{Value, TooLarge, Other}
+use Rattle.text.specs.declared.words.NumeralError.{NumeralError}
+use Rattle.text.specs.declared.words.NumeralError.TheVariants.{TooLarge, NotDigits}
 use Rattle.text.specs.Decimal.{value_of, all_digits}
 use Rattle.text.specs.Words.{same, numeral_of}
 use Rattle.log_text.specs.declared.Keyword.{Keyword}
@@ -25,20 +26,24 @@ use Rattle.log_text.specs.declared.Slot.{Slot}
 use Rattle.log_text.specs.declared.Slot.TheVariants.{Number, Limit, Priority, Order}
 use Rattle.log_text.specs.declared.Line.TheVariants as line
 use Rattle.log_text.specs.Form.{limit_text, priority_text, form, number_most, limit_most, slot_most, Bounded}
-use Rattle.log_text.specs.Reading.{Taken, Taken·argument, Taken·refused, Arguments, Arguments·taken, Arguments·refused, by_numeral, take_number, plus_one, take_option, take_word, take_slot, before, first, take_slots, line_from}
+use Rattle.log_text.specs.Reading.{Taken, Arguments, by_numeral, take_number, plus_one, take_option, take_word, take_slot, before, first, take_slots, line_from}
 use Rattle.log_text.specs.Printing.{pool_parts, parts_of}
+
+-- the parts of a pair
+pub ok_parts : {X Y E : Type 0} {a c : X} {b d : Y} → ◌≡◌ {A = Result (X × Y) E} (Ok (a, b)) (Ok (c, d)) → (a ≡ c) × (b ≡ d)
+ok_parts {X} {Y} {E} {a} {c} {b} {d} e = let q : ◌≡◌ {A = X × Y} (a, b) (c, d) = cc in (ap (λ p. p.0) q, ap (λ p. p.1) q)
 
 -- ---- the argument of a slot
 
-numeral_most : (most : ℕ) (w : List ℕ) (v : ℕ) → numeral_of most w ≡ Value v → v ≤ most
+numeral_most : (most : ℕ) (w : List ℕ) (v : ℕ) → numeral_of most w ≡ Ok v → v ≤ most
 unfolding numeral_of
 numeral_most most w v e = by (all_digits w) digits (λ h. absurd (other (rw h at e)))
   where
-    other : Other ≡ Value v → ⊥
-    other q = let z : ◌≡◌ {A = ℕ} 0 1 = cc in omega arith
+    other : Err NotDigits ≡ Ok v → ⊥
+    other q = cc
 
-    large : TooLarge ≡ Value v → ⊥
-    large q = let z : ◌≡◌ {A = ℕ} 0 1 = cc in omega arith
+    large : Err TooLarge ≡ Ok v → ⊥
+    large q = cc
 
     digits : all_digits w ≡ true → v ≤ most
     digits h =
@@ -47,34 +52,34 @@ numeral_most most w v e = by (all_digits w) digits (λ h. absurd (other (rw h at
         (λ k. let g = rw k at f in let q : value_of w ≡ v = cc in omega (arith, leb-true (value_of w) most k))
         (λ k. absurd (large (rw k at f)))
 
-by_most : (most : ℕ) (w : List ℕ) (x : Numeral) → numeral_of most w ≡ x → (ws : List (List ℕ)) {v : ℕ} {rest : List (List ℕ)} → by_numeral x ws ≡ Taken·argument v rest → v ≤ most
-by_most most w (Value u) q ws {v} e = let same : u ≡ v = cc in rw (← same) (numeral_most most w u q)
-by_most most w TooLarge q ws e = let z : ◌≡◌ {A = ℕ} 0 1 = cc in absurd (omega arith)
-by_most most w Other q ws e = let z : ◌≡◌ {A = ℕ} 0 1 = cc in absurd (omega arith)
+by_most : (most : ℕ) (w : List ℕ) (x : Result ℕ NumeralError) → numeral_of most w ≡ x → (ws : List (List ℕ)) {v : ℕ} {rest : List (List ℕ)} → by_numeral x ws ≡ Ok (v, rest) → v ≤ most
+by_most most w (Ok u) q ws {v} e = let same = (ok_parts e).0 in rw (← same) (numeral_most most w u q)
+by_most most w (Err TooLarge) q ws e = cc
+by_most most w (Err NotDigits) q ws e = cc
 
-pub number_most_lem : (most : ℕ) (ws : List (List ℕ)) {v : ℕ} {rest : List (List ℕ)} → take_number most ws ≡ Taken·argument v rest → v ≤ most
-number_most_lem most [] e = let z : ◌≡◌ {A = ℕ} 0 1 = cc in absurd (omega arith)
+pub number_most_lem : (most : ℕ) (ws : List (List ℕ)) {v : ℕ} {rest : List (List ℕ)} → take_number most ws ≡ Ok (v, rest) → v ≤ most
+number_most_lem most [] e = cc
 number_most_lem most (w ∷ ws) e = by_most most w (numeral_of most w) refl ws e
 
-plus_most : (most : ℕ) (ws : List (List ℕ)) (x : Taken) → take_number most ws ≡ x → {v : ℕ} {rest : List (List ℕ)} → plus_one x ≡ Taken·argument v rest → v ≤ most + 1
-plus_most most ws (Taken·argument u us) q {v} e = let same : u + 1 ≡ v = cc in omega (arith, number_most_lem most ws q)
-plus_most most ws (Taken·refused why) q e = let z : ◌≡◌ {A = ℕ} 0 1 = cc in absurd (omega arith)
+plus_most : (most : ℕ) (ws : List (List ℕ)) (x : Taken) → take_number most ws ≡ x → {v : ℕ} {rest : List (List ℕ)} → plus_one x ≡ Ok (v, rest) → v ≤ most + 1
+plus_most most ws (Ok (u, us)) q {v} e = let same = (ok_parts e).0 in omega (arith, number_most_lem most ws q)
+plus_most most ws (Err why) q e = cc
 
-option_most : (name : List ℕ) (most : ℕ) (ws : List (List ℕ)) {v : ℕ} {rest : List (List ℕ)} → take_option name most ws ≡ Taken·argument v rest → v ≤ most + 1
-option_most name most [] {v} e = let same : 0 ≡ v = cc in omega arith
+option_most : (name : List ℕ) (most : ℕ) (ws : List (List ℕ)) {v : ℕ} {rest : List (List ℕ)} → take_option name most ws ≡ Ok (v, rest) → v ≤ most + 1
+option_most name most [] e = let same = (ok_parts e).0 in omega arith
 option_most name most (w ∷ ws) {v} e =
     by (same w name)
     (λ h. plus_most most ws (take_number most ws) refl (rw h at e))
-    (λ h. let f = rw h at e in let same : 0 ≡ v = cc in omega arith)
+    (λ h. let same = (ok_parts (rw h at e)).0 in omega arith)
 
-flag_most : (name : List ℕ) (ws : List (List ℕ)) {v : ℕ} {rest : List (List ℕ)} → take_word name ws ≡ Taken·argument v rest → v ≤ 1
-flag_most name [] {v} e = let same : 0 ≡ v = cc in omega arith
+flag_most : (name : List ℕ) (ws : List (List ℕ)) {v : ℕ} {rest : List (List ℕ)} → take_word name ws ≡ Ok (v, rest) → v ≤ 1
+flag_most name [] e = let same = (ok_parts e).0 in omega arith
 flag_most name (w ∷ ws) {v} e =
     by (same w name)
-    (λ h. let f = rw h at e in let same : 1 ≡ v = cc in omega arith)
-    (λ h. let f = rw h at e in let same : 0 ≡ v = cc in omega arith)
+    (λ h. let same = (ok_parts (rw h at e)).0 in omega arith)
+    (λ h. let same = (ok_parts (rw h at e)).0 in omega arith)
 
-slot_most_lem : (s : Slot) (ws : List (List ℕ)) {v : ℕ} {rest : List (List ℕ)} → take_slot s ws ≡ Taken·argument v rest → v ≤ slot_most s
+slot_most_lem : (s : Slot) (ws : List (List ℕ)) {v : ℕ} {rest : List (List ℕ)} → take_slot s ws ≡ Ok (v, rest) → v ≤ slot_most s
 slot_most_lem Number ws e = number_most_lem number_most ws e
 slot_most_lem Limit ws e = option_most limit_text limit_most ws e
 slot_most_lem Priority ws e = option_most priority_text number_most ws e
@@ -85,43 +90,43 @@ slot_most_lem Order ws e = flag_most priority_text ws e
 -- what an argument in front of others comes from
 pub record Headed (v : ℕ) (x : Arguments) (vs : List ℕ) (rest : List (List ℕ)) : Type 0 where
   pub tail : List ℕ
-  pub others : x ≡ Arguments·taken tail rest
+  pub others : x ≡ Ok (tail, rest)
   pub whole : v ∷ tail ≡ vs
 
-pub headed : (v : ℕ) (x : Arguments) {vs : List ℕ} {rest : List (List ℕ)} → before (v ∷ []) x ≡ Arguments·taken vs rest → Headed v x vs rest
-headed v (Arguments·taken us ws) {vs} {rest} e = record { tail = us; others = cc; whole = cc }
-headed v (Arguments·refused why) e = let z : ◌≡◌ {A = ℕ} 0 1 = cc in absurd (omega arith)
+pub headed : (v : ℕ) (x : Arguments) {vs : List ℕ} {rest : List (List ℕ)} → before (v ∷ []) x ≡ Ok (vs, rest) → Headed v x vs rest
+headed v (Ok (us, ws)) e = let q = ok_parts e in record { tail = us; others = ap (λ ts. Ok (us, ts)) q.1; whole = q.0 }
+headed v (Err why) e = cc
 
 -- induction over the slots that are taken
 module _ (P : List Slot → List (List ℕ) → List ℕ → List (List ℕ) → Type 0)
     (none : (ws : List (List ℕ)) → P [] ws [] ws)
-    (more : (s : Slot) (ss : List Slot) (ws mid rest : List (List ℕ)) (v : ℕ) (vs : List ℕ) → take_slot s ws ≡ Taken·argument v mid → P ss mid vs rest → P (s ∷ ss) ws (v ∷ vs) rest) where
+    (more : (s : Slot) (ss : List Slot) (ws mid rest : List (List ℕ)) (v : ℕ) (vs : List ℕ) → take_slot s ws ≡ Ok (v, mid) → P ss mid vs rest → P (s ∷ ss) ws (v ∷ vs) rest) where
   at_slot : (s : Slot) (ss : List Slot) (ws : List (List ℕ)) (vs : List ℕ) (rest : List (List ℕ))
-      → ((us : List (List ℕ)) (ts : List ℕ) → take_slots ss us ≡ Arguments·taken ts rest → P ss us ts rest)
-      → (x : Taken) → take_slot s ws ≡ x → first x (λ us. take_slots ss us) ≡ Arguments·taken vs rest → P (s ∷ ss) ws vs rest
-  at_slot s ss ws vs rest ih (Taken·refused why) q e = let z : ◌≡◌ {A = ℕ} 0 1 = cc in absurd (omega arith)
-  at_slot s ss ws vs rest ih (Taken·argument v mid) q e =
+      → ((us : List (List ℕ)) (ts : List ℕ) → take_slots ss us ≡ Ok (ts, rest) → P ss us ts rest)
+      → (x : Taken) → take_slot s ws ≡ x → first x (λ us. take_slots ss us) ≡ Ok (vs, rest) → P (s ∷ ss) ws vs rest
+  at_slot s ss ws vs rest ih (Err why) q e = cc
+  at_slot s ss ws vs rest ih (Ok (v, mid)) q e =
       let h = headed v (take_slots ss mid) e in rw (← h.whole) (more s ss ws mid rest v h.tail q (ih mid h.tail h.others))
 
-  pub slots_ind : (ss : List Slot) (ws : List (List ℕ)) (vs : List ℕ) (rest : List (List ℕ)) → take_slots ss ws ≡ Arguments·taken vs rest → P ss ws vs rest
+  pub slots_ind : (ss : List Slot) (ws : List (List ℕ)) (vs : List ℕ) (rest : List (List ℕ)) → take_slots ss ws ≡ Ok (vs, rest) → P ss ws vs rest
   unfolding take_slots
-  slots_ind [] ws vs rest e = let p : [] ≡ vs = cc in let q : ws ≡ rest = cc in rw (← p, ← q) (none ws)
+  slots_ind [] ws vs rest e = let q = ok_parts e in rw (← q.0, ← q.1) (none ws)
   slots_ind (s ∷ ss) ws vs rest e = at_slot s ss ws vs rest (λ us ts. slots_ind ss us ts rest) (take_slot s ws) refl e
 
 -- each is one that its slot can have
-pub slots_bounded : (ss : List Slot) (ws : List (List ℕ)) (vs : List ℕ) (rest : List (List ℕ)) → take_slots ss ws ≡ Arguments·taken vs rest → Bounded ss vs
+pub slots_bounded : (ss : List Slot) (ws : List (List ℕ)) (vs : List ℕ) (rest : List (List ℕ)) → take_slots ss ws ≡ Ok (vs, rest) → Bounded ss vs
 slots_bounded = slots_ind (λ ss ws vs rest. Bounded ss vs) (λ ws. record { most = λ i h. absurd (omega arith) }) next
   where
     at : (s : Slot) (ss : List Slot) (v : ℕ) (vs : List ℕ) → v ≤ slot_most s → Bounded ss vs → (i : ℕ) → i < length (s ∷ ss) → get_or (v ∷ vs) i 0 ≤ slot_most (get_or (s ∷ ss) i Number)
     at s ss v vs h b zero k = h
     at s ss v vs h b (suc i) k = b.most i (omega arith)
 
-    next : (s : Slot) (ss : List Slot) (ws mid rest : List (List ℕ)) (v : ℕ) (vs : List ℕ) → take_slot s ws ≡ Taken·argument v mid → Bounded ss vs → Bounded (s ∷ ss) (v ∷ vs)
+    next : (s : Slot) (ss : List Slot) (ws mid rest : List (List ℕ)) (v : ℕ) (vs : List ℕ) → take_slot s ws ≡ Ok (v, mid) → Bounded ss vs → Bounded (s ∷ ss) (v ∷ vs)
     next s ss ws mid rest v vs e b = record { most = at s ss v vs (slot_most_lem s ws e) b }
 
 -- ---- the record of a line
 
-get_expressible : (task size limit priority : ℕ) → Bounded (form keyword.Get) (task ∷ size ∷ limit ∷ priority ∷ []) → (r : Record) → line_from keyword.Get task size limit priority ≡ line.Call r → Expressible r
+get_expressible : (task size limit priority : ℕ) → Bounded (form keyword.Get) (task ∷ size ∷ limit ∷ priority ∷ []) → (r : Record) → line_from keyword.Get task size limit priority ≡ Ok (line.Call r) → Expressible r
 unfolding fields_of
 get_expressible task size limit zero b r e =
     let l = field_limit limit (b.most 2 (omega arith)) in
@@ -135,7 +140,7 @@ get_expressible task size limit (suc p) b r e =
       limited = l.1;
     })
 
-poll_expressible : (task size priority d : ℕ) → Bounded (form keyword.Poll) (task ∷ size ∷ priority ∷ d ∷ []) → (r : Record) → line_from keyword.Poll task size priority d ≡ line.Call r → Expressible r
+poll_expressible : (task size priority d : ℕ) → Bounded (form keyword.Poll) (task ∷ size ∷ priority ∷ d ∷ []) → (r : Record) → line_from keyword.Poll task size priority d ≡ Ok (line.Call r) → Expressible r
 unfolding fields_of
 poll_expressible task size zero d b r e =
     let q : record_of.Poll task size ≡ r = cc in
@@ -145,9 +150,9 @@ poll_expressible task size (suc p) d b r e =
     rw (← q) (record { small = (omega arith, (omega (arith, b.most 0 (omega arith)), (omega (arith, b.most 1 (omega arith)), (omega (arith, b.most 2 (omega arith)), tt)))); limited = tt })
 
 -- the log can express it
-pub from_expressible : (k : Keyword) (a b c d : ℕ) → Bounded (form k) (a ∷ b ∷ c ∷ d ∷ []) → (r : Record) → line_from k a b c d ≡ line.Call r → Expressible r
+pub from_expressible : (k : Keyword) (a b c d : ℕ) → Bounded (form k) (a ∷ b ∷ c ∷ d ∷ []) → (r : Record) → line_from k a b c d ≡ Ok (line.Call r) → Expressible r
 unfolding fields_of
-from_expressible keyword.Pool a b c d h r e = let z : ◌≡◌ {A = ℕ} 0 1 = cc in absurd (omega arith)
+from_expressible keyword.Pool a b c d h r e = cc
 from_expressible keyword.Get a b c d h r e = get_expressible a b c d h r e
 from_expressible keyword.Poll a b c d h r e = poll_expressible a b c d h r e
 from_expressible keyword.Release a b c d h r e =
@@ -155,7 +160,7 @@ from_expressible keyword.Release a b c d h r e =
 from_expressible keyword.Cancel a b c d h r e =
     let q : record_of.Cancel a ≡ r = cc in rw (← q) (record { small = (omega arith, (omega (arith, h.most 0 (omega arith)), tt)); limited = tt })
 from_expressible keyword.Tick a b c d h r e = let q : record_of.Tick ≡ r = cc in rw (← q) (record { small = (omega arith, tt); limited = tt })
-from_expressible keyword.Unknown a b c d h r e = let z : ◌≡◌ {A = ℕ} 0 1 = cc in absurd (omega arith)
+from_expressible keyword.Unknown a b c d h r e = cc
 
 -- ---- and the other way: the arguments of a record that the log can express
 

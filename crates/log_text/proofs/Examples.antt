@@ -111,7 +111,7 @@ no_pool : map parse ([] ∷ ascii "#\n" ∷ ascii "tick" ∷ []) ≡ Parsed·ref
 unfolding value_from all_digits span pieces nonempty same numeral_of take_slots line_of parse_lines parse
 no_pool = refl
 
--- the log of document 01
+-- the log of the examples
 abbrev log : List ℕ
 log =
     0x40 ∷ 0x01 ∷ 0x01 ∷ 0x0A ∷ 0x00 ∷ 0x01 ∷ 0x02 ∷ 0x14 ∷ 0x00 ∷ 0x02 ∷ 0x05 ∷ 0x0C ∷ 0x03 ∷ 0x08 ∷ 0x01 ∷ 0x03 ∷ 0x18 ∷ 0x00 ∷ 0x03 ∷ 0x1C ∷ []

@@ -26,9 +26,9 @@ pub record Wordy (w : List ℕ) : Type 0 where
 pub wordy_decimal : (n : ℕ) → Wordy (decimal n)
 wordy_decimal n = record {
   some = decimal-some n;
-  line = every_digit Line (decimal n) (λ e. let z : ◌≡◌ {A = ℕ} 0 1 = cc in omega arith) (decimal-digits n);
-  plain = every_digit Plain (decimal n) (λ e. let z : ◌≡◌ {A = ℕ} 0 1 = cc in omega arith) (decimal-digits n);
-  word = every_digit Word (decimal n) (λ e. let z : ◌≡◌ {A = ℕ} 0 1 = cc in omega arith) (decimal-digits n);
+  line = every_digit Line (decimal n) (λ e. cc) (decimal-digits n);
+  plain = every_digit Plain (decimal n) (λ e. cc) (decimal-digits n);
+  word = every_digit Word (decimal n) (λ e. cc) (decimal-digits n);
 }
 
 unfoldable pub AllWordy : List (List ℕ) → Type 0

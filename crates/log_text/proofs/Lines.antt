@@ -8,6 +8,7 @@ use native.Mathlib.Omega.{arith}
 use lib.Dec.{leb, ltb}
 use lib.ListN.{length, get_or, length-append}
 use borrow.Author.Tests.{ltb-true}
+use Rattle.std.specs.Prelude.{Result, Ok, Err}
 use Rattle.model.specs.Rules.{ok_order}
 use Rattle.model.proofs.Tests.{by}
 use Rattle.numbers.specs.Number.{number_bound}
@@ -18,10 +19,11 @@ use Rattle.call_log.proofs.Forms.{four, four_at}
 use Rattle.text.specs.Words.{lines_of, words_of, same}
 use Rattle.log_text.specs.declared.Keyword.{Keyword}
 use Rattle.log_text.specs.declared.Keyword.TheVariants as keyword
+use Rattle.log_text.specs.declared.Why.{Why}
 use Rattle.log_text.specs.declared.Line.{Line}
-use Rattle.log_text.specs.declared.Line.TheVariants.{Blank, Pool, Call, Refused}
+use Rattle.log_text.specs.declared.Line.TheVariants.{Blank, Pool, Call}
 use Rattle.log_text.specs.Form.{keyword_text, form, Bounded}
-use Rattle.log_text.specs.Reading.{Arguments, Arguments·taken, Arguments·refused, take_slots, order_with, line_from, made, keyword_of, line_by, line_of, is_begun, record_count, limited, line_after, with_line, Parsed, Parsed·log, at_end, go_on, parse_lines, longest_text, parse}
+use Rattle.log_text.specs.Reading.{Arguments, take_slots, order_with, line_from, made, keyword_of, line_by, line_of, is_begun, record_count, limited, line_after, with_line, Parsed, Parsed·log, at_end, go_on, parse_lines, longest_text, parse}
 use Rattle.log_text.specs.Printing.{Printable}
 use Rattle.log_text.proofs.Slots.{form-few}
 use Rattle.log_text.proofs.Bounds.{slots_bounded, from_expressible}
@@ -29,29 +31,29 @@ use Rattle.log_text.proofs.Bounds.{slots_bounded, from_expressible}
 -- ---- what a line can say
 
 -- before the pool line only a pool that a log can have; behind it only a record that the log can have and that is not one too many
-abbrev pub Fit : Option Log → Line → Type 0
-Fit none Blank = Unit {0}
-Fit none (Pool n order) = (n < number_bound) × (ok_order order ≡ true)
-Fit none (Call r) = ⊥
-Fit none (Refused why) = Unit {0}
-Fit (some l) Blank = Unit {0}
-Fit (some l) (Pool n order) = ⊥
-Fit (some l) (Call r) = Expressible r × (length l.records < most_records)
-Fit (some l) (Refused why) = Unit {0}
+abbrev pub Fit : Option Log → Result Line Why → Type 0
+Fit none (Ok Blank) = Unit {0}
+Fit none (Ok (Pool n order)) = (n < number_bound) × (ok_order order ≡ true)
+Fit none (Ok (Call r)) = ⊥
+Fit none (Err why) = Unit {0}
+Fit (some l) (Ok Blank) = Unit {0}
+Fit (some l) (Ok (Pool n order)) = ⊥
+Fit (some l) (Ok (Call r)) = Expressible r × (length l.records < most_records)
+Fit (some l) (Err why) = Unit {0}
 
 order_ok : (n : ℕ) → ok_order (order_with n) ≡ true
 order_ok zero = refl
 order_ok (suc n) = refl
 
 pool-fits : (ws : List (List ℕ)) (x : Arguments) → take_slots (form keyword.Pool) ws ≡ x → Fit none (limited 0 (made keyword.Pool x))
-pool-fits ws (Arguments·taken vs []) e =
+pool-fits ws (Ok (vs, [])) e =
     (omega (arith, (slots_bounded (form keyword.Pool) ws vs [] e).most 0 (omega arith)), order_ok (get_or vs 1 0))
-pool-fits ws (Arguments·taken vs (u ∷ us)) e = tt
-pool-fits ws (Arguments·refused why) e = tt
+pool-fits ws (Ok (vs, u ∷ us)) e = tt
+pool-fits ws (Err why) e = tt
 
 module _ (l : Log) where
   -- a record, or a refusal
-  call_fits : (y : Line) (r : Record) → y ≡ Call r → Expressible r → Fit (some l) (limited (length l.records) y)
+  call_fits : (y : Result Line Why) (r : Record) → y ≡ Ok (Call r) → Expressible r → Fit (some l) (limited (length l.records) y)
   call_fits y r e h =
       rw e (by (ltb (length l.records) most_records) (λ k. rw k (h, ltb-true (length l.records) most_records k)) (λ k. rw k tt))
 
@@ -60,13 +62,13 @@ module _ (l : Log) where
   four_bounded k vs b = record { most = λ i h. rw (four_at vs i (omega (arith, form-few k))) (b.most i h) }
 
   made-fits : (k : Keyword) (ws : List (List ℕ)) (x : Arguments) → take_slots (form k) ws ≡ x
-      → ((vs : List ℕ) → (r : Record) × (line_from k (get_or vs 0 0) (get_or vs 1 0) (get_or vs 2 0) (get_or vs 3 0) ≡ Call r)) → Fit (some l) (limited (length l.records) (made k x))
-  made-fits k ws (Arguments·taken vs []) e call =
+      → ((vs : List ℕ) → (r : Record) × (line_from k (get_or vs 0 0) (get_or vs 1 0) (get_or vs 2 0) (get_or vs 3 0) ≡ Ok (Call r))) → Fit (some l) (limited (length l.records) (made k x))
+  made-fits k ws (Ok (vs, [])) e call =
       let c = call vs in
       call_fits (line_from k (get_or vs 0 0) (get_or vs 1 0) (get_or vs 2 0) (get_or vs 3 0)) c.0 c.1
       (from_expressible k (get_or vs 0 0) (get_or vs 1 0) (get_or vs 2 0) (get_or vs 3 0) (four_bounded k vs (slots_bounded (form k) ws vs [] e)) c.0 c.1)
-  made-fits k ws (Arguments·taken vs (u ∷ us)) e call = tt
-  made-fits k ws (Arguments·refused why) e call = tt
+  made-fits k ws (Ok (vs, u ∷ us)) e call = tt
+  made-fits k ws (Err why) e call = tt
 
 -- behind the pool line no word says a pool
 abbrev is_pool : Keyword → Bool
@@ -87,7 +89,7 @@ no_pool w =
     (λ d. by (same w (keyword_text keyword.Tick)) (λ e. rw (a, b, c, d, e)) (λ e. rw (a, b, c, d, e))))))
 
 known-fits : (l : Log) (k : Keyword) (ws : List (List ℕ)) → is_pool k ≡ false → Fit (some l) (limited (length l.records) (line_by true k ws))
-known-fits l keyword.Pool ws h = let z : ◌≡◌ {A = ℕ} 0 1 = cc in absurd (omega arith)
+known-fits l keyword.Pool ws h = cc
 known-fits l keyword.Get ws h = made-fits l keyword.Get ws (take_slots (form keyword.Get) ws) refl (λ vs. (_, refl))
 known-fits l keyword.Poll ws h = made-fits l keyword.Poll ws (take_slots (form keyword.Poll) ws) refl (λ vs. (_, refl))
 known-fits l keyword.Release ws h = made-fits l keyword.Release ws (take_slots (form keyword.Release) ws) refl (λ vs. (_, refl))
@@ -117,38 +119,38 @@ unfolding AllExpressible
 all_snoc [] r h e = (e, tt)
 all_snoc (q ∷ rs) r h e = (h.0, all_snoc rs r h.1 e)
 
-pub sound_next : (x : Option Log) (y : Line) → Sound x → Fit x y → Sound (with_line x y)
+pub sound_next : (x : Option Log) (y : Result Line Why) → Sound x → Fit x y → Sound (with_line x y)
 unfolding AllExpressible
-sound_next none Blank s f = tt
-sound_next none (Pool n order) s f = record { small = f.0; known = f.1; all = tt; few = omega arith }
-sound_next none (Call r) s f = absurd f
-sound_next none (Refused why) s f = tt
-sound_next (some l) Blank s f = s
-sound_next (some l) (Pool n order) s f = absurd f
-sound_next (some l) (Call r) s f = record { small = s.small; known = s.known; all = all_snoc l.records r s.all f.0; few = simp length-append (omega (arith, f.1)) }
-sound_next (some l) (Refused why) s f = s
+sound_next none (Ok Blank) s f = tt
+sound_next none (Ok (Pool n order)) s f = record { small = f.0; known = f.1; all = tt; few = omega arith }
+sound_next none (Ok (Call r)) s f = absurd f
+sound_next none (Err why) s f = tt
+sound_next (some l) (Ok Blank) s f = s
+sound_next (some l) (Ok (Pool n order)) s f = absurd f
+sound_next (some l) (Ok (Call r)) s f = record { small = s.small; known = s.known; all = all_snoc l.records r s.all f.0; few = simp length-append (omega (arith, f.1)) }
+sound_next (some l) (Err why) s f = s
 
 -- ---- a text that gives a log
 
 -- where a log is read, no line was refused
-pub record Went (count : ℕ) (y : Line) (rest : Parsed) (l : Log) : Type 0 where
+pub record Went (count : ℕ) (y : Result Line Why) (rest : Parsed) (l : Log) : Type 0 where
   pub same : limited count y ≡ y
   pub others : rest ≡ Parsed·log l
 
-went_call : (k count : ℕ) (r : Record) (rest : Parsed) (l : Log) → go_on k (limited count (Call r)) rest ≡ Parsed·log l → Went count (Call r) rest l
+went_call : (k count : ℕ) (r : Record) (rest : Parsed) (l : Log) → go_on k (limited count (Ok (Call r))) rest ≡ Parsed·log l → Went count (Ok (Call r)) rest l
 went_call k count r rest l e =
     by (ltb count most_records)
     (λ h. record { same = rw h; others = rw h at e })
-    (λ h. let f = rw h at e in let z : ◌≡◌ {A = ℕ} 0 1 = cc in absurd (omega arith))
+    (λ h. let f = rw h at e in cc)
 
-pub went : (k count : ℕ) (y : Line) (rest : Parsed) (l : Log) → go_on k (limited count y) rest ≡ Parsed·log l → Went count y rest l
-went k count Blank rest l e = record { same = refl; others = e }
-went k count (Pool n order) rest l e = record { same = refl; others = e }
-went k count (Call r) rest l e = went_call k count r rest l e
-went k count (Refused why) rest l e = let z : ◌≡◌ {A = ℕ} 0 1 = cc in absurd (omega arith)
+pub went : (k count : ℕ) (y : Result Line Why) (rest : Parsed) (l : Log) → go_on k (limited count y) rest ≡ Parsed·log l → Went count y rest l
+went k count (Ok Blank) rest l e = record { same = refl; others = e }
+went k count (Ok (Pool n order)) rest l e = record { same = refl; others = e }
+went k count (Ok (Call r)) rest l e = went_call k count r rest l e
+went k count (Err why) rest l e = cc
 
 pub end_log : (k : ℕ) (x : Option Log) (l : Log) → at_end k x ≡ Parsed·log l → x ≡ some l
-end_log k none l e = let z : ◌≡◌ {A = ℕ} 0 1 = cc in absurd (omega arith)
+end_log k none l e = cc
 end_log k (some m) l e = let q : m ≡ l = cc in ap some q
 
 pub lines_end : (k : ℕ) (x : Option Log) (l : Log) → parse_lines k x [] ≡ Parsed·log l → x ≡ some l
@@ -169,4 +171,4 @@ unfolding parse
 parse-sound text l e =
     by (leb (length text) longest_text)
     (λ h. lines-sound (lines_of text) 1 none l tt (rw h at e))
-    (λ h. let f = rw h at e in let z : ◌≡◌ {A = ℕ} 0 1 = cc in absurd (omega arith))
+    (λ h. let f = rw h at e in cc)

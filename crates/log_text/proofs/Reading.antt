@@ -8,6 +8,7 @@ use native.Mathlib.Omega.{arith}
 use native.Mathlib.Numerals.{add-one}
 use lib.ListN.{length, length-append}
 use borrow.Author.Tests.{le-leb, lt-ltb}
+use Rattle.std.specs.Prelude.{Ok}
 use Rattle.model.specs.Rules.{ok_order}
 use Rattle.numbers.specs.Number.{number_bound}
 use Rattle.call_log.specs.declared.Record.{Record}
@@ -15,7 +16,6 @@ use Rattle.call_log.specs.declared.Record.TheVariants as record_of
 use Rattle.call_log.specs.Record.{limit_of, limit_field, Expressible}
 use Rattle.call_log.specs.Log.{most_records, AllExpressible, Log}
 use Rattle.call_log.proofs.Forms.{limit_field_lem}
-use Rattle.text.specs.declared.words.Numeral.TheVariants.{Value}
 use Rattle.text.specs.Decimal.{decimal}
 use Rattle.text.specs.Words.{pieces, lines_of, words_of, same, numeral_of}
 use Rattle.text.proofs.Decimal.{decimal-digits}
@@ -35,11 +35,11 @@ use Rattle.log_text.proofs.Joining.{Wordy, wordy_decimal, AllWordy, words-joined
 
 -- ---- the words of a line
 
-numeral_decimal : (most v : ℕ) → v ≤ most → numeral_of most (decimal v) ≡ Value v
+numeral_decimal : (most v : ℕ) → v ≤ most → numeral_of most (decimal v) ≡ Ok v
 unfolding numeral_of
 numeral_decimal most v h = rw (decimal-digits v, value_decimal v, le-leb v most h)
 
-get-line : (t s f p : ℕ) → Bounded (form keyword.Get) (t ∷ s ∷ f ∷ p ∷ []) → line_of true (line_words (parts keyword.Get t s f p)) ≡ Call (get_with t s (limit_of f) p)
+get-line : (t s f p : ℕ) → Bounded (form keyword.Get) (t ∷ s ∷ f ∷ p ∷ []) → line_of true (line_words (parts keyword.Get t s f p)) ≡ Ok (Call (get_with t s (limit_of f) p))
 unfolding line_of take_slots same slots_words
 get-line t s zero zero b = rw (numeral_decimal number_most t (b.most 0 (omega arith)), numeral_decimal number_most s (b.most 1 (omega arith)))
 get-line t s (suc f) zero b =
@@ -56,13 +56,13 @@ get-line t s (suc f) (suc p) b =
       add-one p,
     )
 
-poll-line : (t s p : ℕ) → Bounded (form keyword.Poll) (t ∷ s ∷ p ∷ 0 ∷ []) → line_of true (line_words (parts keyword.Poll t s p 0)) ≡ Call (poll_with t s p)
+poll-line : (t s p : ℕ) → Bounded (form keyword.Poll) (t ∷ s ∷ p ∷ 0 ∷ []) → line_of true (line_words (parts keyword.Poll t s p 0)) ≡ Ok (Call (poll_with t s p))
 unfolding line_of take_slots same slots_words
 poll-line t s zero b = rw (numeral_decimal number_most t (b.most 0 (omega arith)), numeral_decimal number_most s (b.most 1 (omega arith)))
 poll-line t s (suc p) b =
     rw (numeral_decimal number_most t (b.most 0 (omega arith)), numeral_decimal number_most s (b.most 1 (omega arith)), numeral_decimal number_most p (omega (arith, b.most 2 (omega arith))), add-one p)
 
-record-line : (r : Record) → Expressible r → line_of true (line_words (parts_of r)) ≡ Call r
+record-line : (r : Record) → Expressible r → line_of true (line_words (parts_of r)) ≡ Ok (Call r)
 unfolding line_of take_slots same slots_words
 record-line (record_of.Get task size limit) x =
     get-line task size (limit_field limit) 0 (record-bounded (record_of.Get task size limit) x) ∙ rw (limit_field_lem limit x.limited).0
@@ -75,7 +75,7 @@ record-line (record_of.PriorityGet task size limit priority) x =
 record-line (record_of.PriorityPoll task size priority) x =
     poll-line task size (priority + 1) (record-bounded (record_of.PriorityPoll task size priority) x) ∙ rw (add-one priority)
 
-pool-line : (n order : ℕ) → n < number_bound → ok_order order ≡ true → line_of false (line_words (pool_parts n order)) ≡ Pool n order
+pool-line : (n order : ℕ) → n < number_bound → ok_order order ≡ true → line_of false (line_words (pool_parts n order)) ≡ Ok (Pool n order)
 unfolding line_of take_slots same slots_words
 pool-line n zero h k = rw (numeral_decimal number_most n (omega arith))
 pool-line n (suc zero) h k = rw (numeral_decimal number_most n (omega arith))
@@ -136,7 +136,7 @@ module _ (p : Parts) (a : Wordy (keyword_text p.keyword)) where
 abbrev with_records : Log → List Record → Log
 with_records l rs = record { long = l.long; order = l.order; records = l.records ++ rs }
 
-record-after : (r : Record) (l : Log) → Expressible r → length l.records < most_records → line_after (some l) (joined (line_words (parts_of r))) ≡ Call r
+record-after : (r : Record) (l : Log) → Expressible r → length l.records < most_records → line_after (some l) (joined (line_words (parts_of r))) ≡ Ok (Call r)
 record-after r l x h = rw (line-words (parts_of r) (record_wordy r), record-line r x, lt-ltb (length l.records) most_records h)
 
 records_read : (rs : List Record) (k : ℕ) (l : Log) → AllExpressible rs → length l.records + length rs ≤ most_records
@@ -162,7 +162,7 @@ pub text-most : (l : Log) → Printable l → length (text_of l) ≤ longest_lin
 text-most l s =
     omega (arith, length-append (parts_text (pool_parts l.long l.order)) (records_text l.records), pool-short l.long l.order s.small s.known, records-most l.records s.all)
 
-pool-after : (n order : ℕ) → n < number_bound → ok_order order ≡ true → line_after none (joined (line_words (pool_parts n order))) ≡ Pool n order
+pool-after : (n order : ℕ) → n < number_bound → ok_order order ≡ true → line_after none (joined (line_words (pool_parts n order))) ≡ Ok (Pool n order)
 pool-after n order h k = rw (line-words (pool_parts n order) pool_wordy, pool-line n order h k)
 
 -- and is read

@@ -6,6 +6,7 @@ use mathlib.Core.Option.{Option, none, some}
 use native.Mathlib.Omega.{arith}
 use lib.Dec.{leb}
 use lib.ListN.{length}
+use Rattle.std.specs.Prelude.{Result, Ok, Err}
 use Rattle.model.proofs.Tests.{by}
 use Rattle.call_log.specs.declared.Record.{Record}
 use Rattle.call_log.specs.Log.{Log}
@@ -18,8 +19,9 @@ use Rattle.log_text.specs.declared.Slot.{Slot}
 use Rattle.log_text.specs.declared.Slot.TheVariants.{Number, Limit, Priority, Order}
 use Rattle.log_text.specs.declared.Parts.{Parts}
 use Rattle.log_text.specs.Form.{keyword_text, limit_text, priority_text, form}
+use Rattle.log_text.specs.declared.Why.{Why}
 use Rattle.log_text.specs.declared.Line.{Line}
-use Rattle.log_text.specs.declared.Line.TheVariants.{Blank, Pool, Call, Refused}
+use Rattle.log_text.specs.declared.Line.TheVariants.{Blank, Pool, Call}
 use Rattle.log_text.specs.Reading.{line_of, is_begun, record_count, limited, line_after, with_line, Parsed, Parsed·log, go_on, parse_lines, longest_text, parse}
 use Rattle.log_text.specs.Printing.{pool_parts, parts_of, slot_words, slots_words, line_text, parts_text, records_text, text_of}
 use Rattle.log_text.specs.Canonical.{Shortest, AllShortest, CanonicalLines, rejoined, Canonical}
@@ -40,16 +42,16 @@ records_snoc (q ∷ rs) r = rw (records_snoc rs r, append_assoc (parts_text (par
 
 -- a line that is taken has the text of its words
 module _ (k count : ℕ) (rest : Parsed) (l : Log) where
-  line-text : (x : Option Log) (ws : List (List ℕ)) (y : Line) → line_of (is_begun x) ws ≡ y → Fit x y → (ws ≡ [] → ⊥) → AllShortest ws → go_on k (limited count y) rest ≡ Parsed·log l
+  line-text : (x : Option Log) (ws : List (List ℕ)) (y : Result Line Why) → line_of (is_begun x) ws ≡ y → Fit x y → (ws ≡ [] → ⊥) → AllShortest ws → go_on k (limited count y) rest ≡ Parsed·log l
       → text_so (with_line x y) ≡ text_so x ++ line_text ws
   unfolding AllShortest records_text
   line-text x [] y q f n a e = absurd (n refl)
-  line-text x (w ∷ ws) Blank q f n a e = absurd (words-some (is_begun x) w ws q)
-  line-text x (w ∷ ws) (Refused why) q f n a e = let z : ◌≡◌ {A = ℕ} 0 1 = cc in absurd (omega arith)
-  line-text none (w ∷ ws) (Pool m order) q f n a e = append-nil (parts_text (pool_parts m order)) ∙ ap line_text (words-pool w ws m order a.1 q)
-  line-text none (w ∷ ws) (Call r) q f n a e = absurd f
-  line-text (some p) (w ∷ ws) (Pool m order) q f n a e = absurd f
-  line-text (some p) (w ∷ ws) (Call r) q f n a e =
+  line-text x (w ∷ ws) (Ok Blank) q f n a e = absurd (words-some (is_begun x) w ws q)
+  line-text x (w ∷ ws) (Err why) q f n a e = cc
+  line-text none (w ∷ ws) (Ok (Pool m order)) q f n a e = append-nil (parts_text (pool_parts m order)) ∙ ap line_text (words-pool w ws m order a.1 q)
+  line-text none (w ∷ ws) (Ok (Call r)) q f n a e = absurd f
+  line-text (some p) (w ∷ ws) (Ok (Pool m order)) q f n a e = absurd f
+  line-text (some p) (w ∷ ws) (Ok (Call r)) q f n a e =
       rw (records_snoc p.records r, append_assoc (parts_text (pool_parts p.long p.order)) (records_text p.records) (line_text (w ∷ ws)))
       (ap (λ t. parts_text (pool_parts p.long p.order) ++ (records_text p.records ++ t)) (ap line_text (words-call w ws r a.1 q)))
 
@@ -71,18 +73,18 @@ unfolding parse
 text-printed text l c e =
     by (leb (length text) longest_text)
     (λ h. sym (lines-text (lines_of text) 1 none l (rw h at e) c.lines) ∙ c.whole)
-    (λ h. let f = rw h at e in let z : ◌≡◌ {A = ℕ} 0 1 = cc in absurd (omega arith))
+    (λ h. let f = rw h at e in cc)
 
 -- ---- what is printed is canonical
 
 keyword_shortest : (k : Keyword) → Wordy (keyword_text k) → Shortest (keyword_text k)
 unfolding all_digits
-keyword_shortest keyword.Pool a e = let z : ◌≡◌ {A = ℕ} 0 1 = cc in absurd (omega arith)
-keyword_shortest keyword.Get a e = let z : ◌≡◌ {A = ℕ} 0 1 = cc in absurd (omega arith)
-keyword_shortest keyword.Poll a e = let z : ◌≡◌ {A = ℕ} 0 1 = cc in absurd (omega arith)
-keyword_shortest keyword.Release a e = let z : ◌≡◌ {A = ℕ} 0 1 = cc in absurd (omega arith)
-keyword_shortest keyword.Cancel a e = let z : ◌≡◌ {A = ℕ} 0 1 = cc in absurd (omega arith)
-keyword_shortest keyword.Tick a e = let z : ◌≡◌ {A = ℕ} 0 1 = cc in absurd (omega arith)
+keyword_shortest keyword.Pool a e = cc
+keyword_shortest keyword.Get a e = cc
+keyword_shortest keyword.Poll a e = cc
+keyword_shortest keyword.Release a e = cc
+keyword_shortest keyword.Cancel a e = cc
+keyword_shortest keyword.Tick a e = cc
 keyword_shortest keyword.Unknown a e = absurd (omega (arith, a.some))
 
 decimal_shortest : (v : ℕ) → Shortest (decimal v)
@@ -90,7 +92,7 @@ decimal_shortest v e = sym (ap decimal (value_decimal v))
 
 name_shortest : Shortest limit_text × Shortest priority_text
 unfolding all_digits
-name_shortest = ((λ e. let z : ◌≡◌ {A = ℕ} 0 1 = cc in absurd (omega arith)), (λ e. let z : ◌≡◌ {A = ℕ} 0 1 = cc in absurd (omega arith)))
+name_shortest = ((λ e. cc), (λ e. cc))
 
 shortest_append : (vs ws : List (List ℕ)) → AllShortest vs → AllShortest ws → AllShortest (vs ++ ws)
 unfolding AllShortest
@@ -120,7 +122,7 @@ line_canonical p a s c =
     let lines = line-lines p a s in
     let words = line-words p a in
     record {
-      lines = rw (lines, words) ((λ e. let z : ◌≡◌ {A = ℕ} 0 1 = cc in omega arith), (keyword_shortest p.keyword a, slots_shortest (form p.keyword) p.arguments), c.lines);
+      lines = rw (lines, words) ((λ e. cc), (keyword_shortest p.keyword a, slots_shortest (form p.keyword) p.arguments), c.lines);
       whole = rw (lines, words) (ap (λ t. parts_text p ++ t) c.whole);
     }
 

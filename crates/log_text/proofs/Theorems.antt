@@ -7,10 +7,10 @@ use native.Mathlib.Omega.{arith}
 use lib.Dec.{leb}
 use lib.ListN.{length}
 use borrow.Author.Tests.{le-leb}
+use Rattle.std.specs.Prelude.{Option, Some, None}
 use Rattle.model.proofs.Tests.{by}
 use Rattle.numbers.specs.Number.{Bytes}
 use Rattle.call_log.specs.declared.Start.{Start}
-use Rattle.call_log.specs.declared.Start.TheVariants as start
 use Rattle.call_log.specs.Log.{most_records, start_of, Log, bytes_of, read_log}
 use Rattle.call_log.proofs.Logs.{whole}
 use Rattle.call_log.proofs.LogTheorems.{log-length, log-most, read_log_lem, log_read, log_expressible}
@@ -32,20 +32,20 @@ pub record Prints (log text : List ℕ) : Type 0 where
   pub fits : Printable source
 
 module _ (log text : List ℕ) where
-  from_start : (x : Start) → start_of log ≡ x → print_start x log ≡ Printed·text text → Prints log text
+  from_start : (x : Option Start) → start_of log ≡ x → print_start x log ≡ Printed·text text → Prints log text
   unfolding read_log
-  from_start start.Bad q e = let z : ◌≡◌ {A = ℕ} 0 1 = cc in absurd (omega arith)
-  from_start (start.Taken n order place) q e =
-      let f = front_text (parts_text (pool_parts n order)) (print_records place 0 0 log) e in
-      let v = print_source place 0 0 log f.0 (omega arith) f.1 in
-      let l : Log = record { long = n; order = order; records = v.records } in
+  from_start None q e = cc
+  from_start (Some x) q e =
+      let f = front_text (parts_text (pool_parts x.length x.order)) (print_records x.size 0 0 log) e in
+      let v = print_source x.size 0 0 log f.0 (omega arith) f.1 in
+      let l : Log = record { long = x.length; order = x.order; records = v.records } in
       let same : read_log log ≡ some l = rw (q, read_log, v.same) in
-      let x = log_expressible log l same in
+      let in_log = log_expressible log l same in
       record {
         source = l;
         read = same;
-        whole = sym f.2 ∙ ap (λ t. parts_text (pool_parts n order) ++ t) v.text;
-        fits = record { small = x.0; known = x.1; all = x.2; few = omega (arith, v.few) };
+        whole = sym f.2 ∙ ap (λ t. parts_text (pool_parts x.length x.order) ++ t) v.text;
+        fits = record { small = in_log.0; known = in_log.1; all = in_log.2; few = omega (arith, v.few) };
       }
 
   -- a text is printed only for a log that is read whole, and is that of its length, order and records
@@ -54,7 +54,7 @@ module _ (log text : List ℕ) where
   print_read e =
       by (leb (length log) longest_log)
       (λ h. from_start (start_of log) refl (rw h at e))
-      (λ h. let f = rw h at e in let z : ◌≡◌ {A = ℕ} 0 1 = cc in absurd (omega arith))
+      (λ h. let f = rw h at e in cc)
 
 -- and is printed for each that is not too long and has not too many records
 pub read_print : (log : List ℕ) (l : Log) → read_log log ≡ some l → length log ≤ longest_log → length l.records ≤ most_records → print log ≡ Printed·text (text_of l)

@@ -1,12 +1,10 @@
 -- The canonical text of a log: a line for the pool and one for each record, one space between words, numbers in their shortest form.
-use Rattle.std.specs.Prelude.{ℕ, zero, suc, ◌+◌, ◌-◌, ◌<◌, ◌≤◌, ◌≡◌, List, [], ◌∷◌, ◌++◌, true, cond, leb, ltb, length}
+use Rattle.std.specs.Prelude.{ℕ, zero, suc, ◌+◌, ◌-◌, ◌<◌, ◌≤◌, ◌≡◌, List, [], ◌∷◌, ◌++◌, true, cond, leb, ltb, length, Option, Some, None, Ok, Err}
 use Rattle.model.specs.Rules.{ok_order}
 use Rattle.numbers.specs.Number.{number_bound}
 use Rattle.call_log.specs.declared.Record.{Record}
 use Rattle.call_log.specs.declared.Record.TheVariants as variants
 use Rattle.call_log.specs.declared.Start.{Start}
-use Rattle.call_log.specs.declared.Start.TheVariants as start
-use Rattle.call_log.specs.declared.Read.TheVariants as read
 use Rattle.call_log.specs.Record.{limit_field, record_of}
 use Rattle.call_log.specs.Log.{most_records, AllExpressible, start_of, Log}
 use Rattle.text.specs.Ascii.{ascii}
@@ -123,14 +121,14 @@ print_records skip at count [] = Printed·text []
 print_records (suc n) at count (b ∷ s) = print_records n (at + 1) count s
 print_records zero at count (b ∷ s) =
     elim (record_of (b ∷ s)) [
-      | read.Taken r n ↦ cond (ltb count most_records) (in_front (parts_text (parts_of r)) (print_records (n - 1) (at + 1) (count + 1) s)) Printed·tooMany
-      | read.End ↦ Printed·text []
-      | read.Bad ↦ Printed·bad at
+      | Ok (Some taken) ↦ cond (ltb count most_records) (in_front (parts_text (parts_of taken.record)) (print_records (taken.size - 1) (at + 1) (count + 1) s)) Printed·tooMany
+      | Ok None ↦ Printed·text []
+      | Err e ↦ Printed·bad at
     ]
 
-abbrev pub print_start : Start → List ℕ → Printed
-print_start (start.Taken n order place) log = in_front (parts_text (pool_parts n order)) (print_records place 0 0 log)
-print_start start.Bad log = Printed·bad 0
+abbrev pub print_start : Option Start → List ℕ → Printed
+print_start (Some start) log = in_front (parts_text (pool_parts start.length start.order)) (print_records start.size 0 0 log)
+print_start None log = Printed·bad 0
 
 unfoldable pub print : List ℕ → Printed
 print log = cond (leb (length log) longest_log) (print_start (start_of log) log) Printed·tooLong

@@ -1,15 +1,16 @@
 // The text form of a log: the words of its lines, and what stands behind each.
 #![tactic(auto)]
 
-ghost use Rattle.std.specs.Prelude.{◌+◌, ◌≤◌, ◌≡◌, length, get_or};
-ghost use Rattle.numbers.specs.Wrote.{Wrote};
-ghost use Rattle.log_text.specs.Form.{form};
+ghost use Rattle.std.specs.Prelude.{◌+◌, ◌≤◌, ◌≡◌, length};
+ghost use Rattle.output.specs.Puts.{Room, Puts};
+ghost use Rattle.log_text.specs.Form.{keyword_text, form};
 ghost use Rattle.log_text.specs.Reasons.{why_text};
 
 use call_log::Record;
+use output::Output;
 
 // The first word of a line.
-#[derive(Clone, Copy)]
+#[derive(Clone, Copy, Debug, PartialEq, Eq)]
 pub enum Keyword {
     Pool,
     Get,
@@ -17,11 +18,12 @@ pub enum Keyword {
     Release,
     Cancel,
     Tick,
+    // any other word; a variant, since the definitions `keyword_text` and `form` answer on it too
     Unknown,
 }
 
 // What may stand at a place behind the first word.
-#[derive(Clone, Copy)]
+#[derive(Clone, Copy, Debug, PartialEq, Eq)]
 pub enum Slot {
     // a number
     Number,
@@ -34,25 +36,30 @@ pub enum Slot {
 }
 
 // Why a line is refused.
-#[derive(Clone, Copy)]
+#[derive(Clone, Copy, Debug, PartialEq, Eq)]
 pub enum Why {
+    // the first word is no keyword, or a word that is no number stands where the line should end
     UnknownWord,
+    // a number should stand here
     MissingNumber,
+    // the number is above the most that may stand here
     NumberTooLarge,
+    // a number stands where the line should end
     TooManyNumbers,
+    // the text does not begin with the line of the pool
     NoPoolLine,
+    // a record more than a log may have
     TooManyRecords,
 }
 
 // What a line says.
-#[derive(Clone, Copy)]
+#[derive(Clone, Copy, Debug, PartialEq, Eq)]
 pub enum Line {
     // it has no words
     Blank,
-    // the pool's length and order
+    // the pool's length and order, the order by the number that create takes
     Pool(u32, u16),
     Call(Record),
-    Refused(Why),
 }
 
 // A line as its first word and an argument for each slot, then zeros. The argument of a number is the number, and that of an
@@ -70,79 +77,60 @@ pub const LONGEST_TEXT: usize = 1048576;
 pub const LONGEST_LOG: usize = 86022;
 
 // The greatest number, and the greatest limit.
-pub const NUMBER_MOST: u32 = 4294967295;
+pub const NUMBER_MOST: u32 = u32::MAX;
 
-pub const LIMIT_MOST: u32 = 2147483647;
+pub const LIMIT_MOST: u32 = i32::MAX as u32;
 
-// How many slots a line has.
-pub fn slot_count(keyword: Keyword) -> usize
-    ensures { result ≡ length (form keyword) }
-{
-    match keyword {
-        Keyword::Pool => 2,
-        Keyword::Get => 4,
-        Keyword::Poll => 3,
-        Keyword::Release => 1,
-        Keyword::Cancel => 1,
-        Keyword::Tick => 0,
-        Keyword::Unknown => 0,
+impl Keyword {
+    // The word, which is empty for an unknown one.
+    pub fn text(self) -> &'static [u8]
+        ensures { result.now ≡ keyword_text self }
+    {
+        match self {
+            Keyword::Pool => b"pool",
+            Keyword::Get => b"get",
+            Keyword::Poll => b"poll",
+            Keyword::Release => b"release",
+            Keyword::Cancel => b"cancel",
+            Keyword::Tick => b"tick",
+            Keyword::Unknown => b"",
+        }
+    }
+
+    // The slots behind the word, in their order.
+    pub fn form(self) -> &'static [Slot]
+        ensures { result.now ≡ form self }
+    {
+        match self {
+            Keyword::Pool => &[Slot::Number, Slot::Order],
+            Keyword::Get => &[Slot::Number, Slot::Number, Slot::Limit, Slot::Priority],
+            Keyword::Poll => &[Slot::Number, Slot::Number, Slot::Priority],
+            Keyword::Release | Keyword::Cancel => &[Slot::Number],
+            Keyword::Tick | Keyword::Unknown => &[],
+        }
     }
 }
 
-// Slot number i of a line, counted from 0.
-pub fn slot_at(keyword: Keyword, i: usize) -> Slot
-    ensures { result ≡ get_or (form keyword) i Slot.Number }
-{
-    match keyword {
-        Keyword::Pool => order_at(i),
-        Keyword::Get => option_at(i),
-        Keyword::Poll => priority_at(i),
-        Keyword::Release => Slot::Number,
-        Keyword::Cancel => Slot::Number,
-        Keyword::Tick => Slot::Number,
-        Keyword::Unknown => Slot::Number,
+impl Why {
+    // The reason in words, with a newline.
+    pub fn text(self) -> &'static [u8]
+        ensures { result.now ≡ why_text self }
+    {
+        match self {
+            Why::UnknownWord => b"unknown word\n",
+            Why::MissingNumber => b"missing number\n",
+            Why::NumberTooLarge => b"number too large\n",
+            Why::TooManyNumbers => b"too many numbers\n",
+            Why::NoPoolLine => b"no pool line\n",
+            Why::TooManyRecords => b"more than 4,096 records\n",
+        }
     }
 }
 
-fn order_at(i: usize) -> Slot
-    ensures { result ≡ get_or (form Keyword.Pool) i Slot.Number }
+// Writes why a line is refused.
+pub fn put_why(out: &mut Output, why: Why)
+    requires { Room (length (why_text why)) out.old }
+    ensures { Puts out.old (why_text why) out.new }
 {
-    match i {
-        1 => Slot::Order,
-        _ => Slot::Number,
-    }
-}
-
-fn option_at(i: usize) -> Slot
-    ensures { result ≡ get_or (form Keyword.Get) i Slot.Number }
-{
-    match i {
-        2 => Slot::Limit,
-        3 => Slot::Priority,
-        _ => Slot::Number,
-    }
-}
-
-fn priority_at(i: usize) -> Slot
-    ensures { result ≡ get_or (form Keyword.Poll) i Slot.Number }
-{
-    match i {
-        2 => Slot::Priority,
-        _ => Slot::Number,
-    }
-}
-
-// Writes why a line is refused, from the place `at` of buf on, and answers the place after it.
-pub fn put_why(buf: &mut [u8], at: usize, why: Why) -> usize
-    requires { at + length (why_text why) ≤ length buf.old }
-    ensures { Wrote buf.old at (why_text why) buf.new result }
-{
-    match why {
-        Why::UnknownWord => text::put_text(buf, at, b"unknown word\n"),
-        Why::MissingNumber => text::put_text(buf, at, b"missing number\n"),
-        Why::NumberTooLarge => text::put_text(buf, at, b"number too large\n"),
-        Why::TooManyNumbers => text::put_text(buf, at, b"too many numbers\n"),
-        Why::NoPoolLine => text::put_text(buf, at, b"no pool line\n"),
-        Why::TooManyRecords => text::put_text(buf, at, b"more than 4,096 records\n"),
-    }
+    out.put(why.text());
 }

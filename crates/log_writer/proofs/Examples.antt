@@ -4,13 +4,14 @@ use mathlib.Core.List.{[], ◌∷◌, ◌++◌}
 use mathlib.Core.Option.{none}
 use lib.IntN.{ℤ, pos, negsuc}
 use lib.ListN.{replicate}
-use Rattle.model.specs.Limits.{fifo_order, priority_order, e_par, e_nomem}
+use Rattle.model.specs.Limits.{fifo_order, priority_order}
 use Rattle.numbers.specs.Number.{groups}
-use Rattle.numbers.specs.Fill.{outcome}
+use Rattle.output.specs.Fill.{outcome}
 use Rattle.call_log.specs.Fields.{encode_fields}
 use Rattle.call_log.specs.Record.{limit_field, fields_of}
 use Rattle.call_log.specs.Log.{encode_records}
 use Rattle.call_log.proofs.Examples.{log}
+use Rattle.log_writer.specs.declared.WriteError.TheVariants.{Parameter, NoRoom}
 use Rattle.log_writer.specs.Writer.{Columns, columns, given_from, writable, written, refusal, write_log}
 
 -- the records of the log, with other numbers in the fields that a kind does not have
@@ -28,7 +29,7 @@ just_fits : write_log 64 fifo_order given (replicate 20 0xFF) ≡ outcome (writt
 unfolding groups fields_of limit_field encode_fields encode_records given_from writable
 just_fits = refl
 
-one_short : write_log 64 fifo_order given (replicate 19 0xFF) ≡ outcome (refusal e_nomem) (replicate 19 0xFF)
+one_short : write_log 64 fifo_order given (replicate 19 0xFF) ≡ outcome (refusal NoRoom) (replicate 19 0xFF)
 unfolding groups fields_of limit_field encode_fields encode_records given_from writable
 one_short = refl
 
@@ -51,7 +52,7 @@ unfolding groups fields_of limit_field encode_fields encode_records given_from w
 limit-zero = refl
 
 -- a limit of -2, also where the buffer is too short
-limit_below : write_log 64 fifo_order (get (negsuc 1)) [] ≡ outcome (refusal e_par) []
+limit_below : write_log 64 fifo_order (get (negsuc 1)) [] ≡ outcome (refusal Parameter) []
 unfolding given_from writable
 limit_below = refl
 
@@ -65,12 +66,12 @@ written-priorities : write_log 64 priority_order with_priorities (replicate 15 0
 unfolding groups fields_of limit_field encode_fields encode_records given_from writable
 written-priorities = refl
 
-one_short_priorities : write_log 64 priority_order with_priorities (replicate 14 0xFF) ≡ outcome (refusal e_nomem) (replicate 14 0xFF)
+one_short_priorities : write_log 64 priority_order with_priorities (replicate 14 0xFF) ≡ outcome (refusal NoRoom) (replicate 14 0xFF)
 unfolding groups fields_of limit_field encode_fields encode_records given_from writable
 one_short_priorities = refl
 
 -- an unknown order
-order_two : write_log 64 2 with_priorities (replicate 15 0xFF) ≡ outcome (refusal e_par) (replicate 15 0xFF)
+order_two : write_log 64 2 with_priorities (replicate 15 0xFF) ≡ outcome (refusal Parameter) (replicate 15 0xFF)
 unfolding writable
 order_two = refl
 

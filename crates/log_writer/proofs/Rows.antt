@@ -1,6 +1,6 @@
 -- Laws of the rows that a writer is given, and of the columns that hold them. Assumes nothing.
 use Prim.Native.Nat.{ℕ, zero, suc, ◌+◌, ◌-◌, ◌≤◌, ◌<◌}
-use mathlib.Core.Path.{◌≡◌, refl, sym, ◌∙◌}
+use mathlib.Core.Path.{◌≡◌, refl, sym, ap, ◌∙◌}
 use mathlib.Core.Bool.{true, cond}
 use mathlib.Core.List.{List, [], ◌∷◌}
 use mathlib.Core.Option.{none, some}
@@ -9,16 +9,16 @@ use native.Mathlib.Nat.{sub-zero}
 use native.Mathlib.Numerals.{add-one}
 use lib.IntN.{ℤ}
 use lib.ListN.{length, take, length-take}
+use Rattle.std.specs.Prelude.{Some}
 use Rattle.model.proofs.Tests.{by}
 use Rattle.numbers.specs.Number.{number_bound}
 use Rattle.call_log.specs.declared.Record.{Record}
 use Rattle.call_log.specs.declared.Record.TheVariants.{Get, Poll, Release, Cancel, Tick, PriorityGet, PriorityPoll}
 use Rattle.call_log.specs.declared.Kind.{Kind}
 use Rattle.call_log.specs.declared.Kind.TheVariants as kind
-use Rattle.call_log.specs.declared.Read.TheVariants.{Taken}
 use Rattle.log_writer.specs.declared.Row.{Row}
 use Rattle.call_log.specs.Fields.{Small}
-use Rattle.call_log.specs.Record.{limit_bound, limit_of, limit_field, is_limit, fields_of, kind_of, field_count, limited_by, record_from, Limited, Expressible}
+use Rattle.call_log.specs.Record.{limit_bound, limit_of, limit_field, is_limit, fields_of, kind_of, field_count, limited_by, record_from, read_as, Limited, Expressible}
 use Rattle.call_log.specs.Log.{encode_records, AllExpressible}
 use Rattle.log_writer.specs.Writer.{given_as, given, Columns, row_at, given_from, row_of, columns_of, Typed}
 use Rattle.log_writer.specs.Steps.{is_some, third_of, row_fields, numbers_of, Holds, rows_bytes}
@@ -31,32 +31,32 @@ pub limit-given : (w : Row) (r : Record) → is_limit w.limit ≡ is_some (cond 
 limit-given w r = by (is_limit w.limit) (λ h. rw h) (λ h. rw h)
 
 -- a row's record is the one that the reader makes of the row's numbers
-same-limited : (w : Row) (made : ℤ → Record) (r : Record) (n : ℕ) → cond (is_limit w.limit) (some (made w.limit)) none ≡ some r
-    → limited_by (limit_field w.limit) (Taken (made (limit_of (limit_field w.limit))) n) ≡ Taken r n
-same-limited w made r n e = by (is_limit w.limit) limited (λ h. no_some (rw h at e))
+same-limited : (w : Row) (made : ℤ → Record) (r : Record) → cond (is_limit w.limit) (some (made w.limit)) none ≡ some r
+    → limited_by (limit_field w.limit) (made (limit_of (limit_field w.limit))) ≡ Some r
+same-limited w made r e = by (is_limit w.limit) limited (λ h. no_some (rw h at e))
   where
-    limited : is_limit w.limit ≡ true → limited_by (limit_field w.limit) (Taken (made (limit_of (limit_field w.limit))) n) ≡ Taken r n
+    limited : is_limit w.limit ≡ true → limited_by (limit_field w.limit) (made (limit_of (limit_field w.limit))) ≡ Some r
     limited h =
         let l = limit_field_lem w.limit h in
         let f = rw h at e in
         sym (limit-within (limit_field w.limit) _ l.1) ∙ rw l.0 (cc)
 
-same-record : (k : Kind) (w : Row) (r : Record) (n : ℕ) → given_as k w ≡ some r → record_from k w.first w.second (third_of k w) w.priority n ≡ Taken r n
-same-record kind.Get w r n e = same-limited w (λ l. Get w.first w.second l) r n e
-same-record kind.Poll w r n e = cc
-same-record kind.Release w r n e = cc
-same-record kind.Cancel w r n e = cc
-same-record kind.Tick w r n e = cc
-same-record kind.PriorityGet w r n e = same-limited w (λ l. PriorityGet w.first w.second l w.priority) r n e
-same-record kind.PriorityPoll w r n e = cc
-same-record kind.Unknown w r n e = no_some e
+same-record : (k : Kind) (w : Row) (r : Record) → given_as k w ≡ some r → record_from k w.first w.second (third_of k w) w.priority ≡ Some r
+same-record kind.Get w r e = same-limited w (λ l. Get w.first w.second l) r e
+same-record kind.Poll w r e = cc
+same-record kind.Release w r e = cc
+same-record kind.Cancel w r e = cc
+same-record kind.Tick w r e = cc
+same-record kind.PriorityGet w r e = same-limited w (λ l. PriorityGet w.first w.second l w.priority) r e
+same-record kind.PriorityPoll w r e = cc
+same-record kind.Unknown w r e = no_some e
 
 -- so it has the row's numbers
 abbrev third : Row → ℕ
 third w = third_of (kind_of w.kind) w
 
 given_made : (w : Row) (r : Record) → given w ≡ some r → Made w.kind w.first w.second (third w) w.priority 0 r 0
-given_made w r e = made_inv w.first w.second (third w) w.priority 0 r 0 w.kind (same-record (kind_of w.kind) w r 0 e)
+given_made w r e = made_inv w.first w.second (third w) w.priority 0 r 0 w.kind (ap (read_as 0) (same-record (kind_of w.kind) w r e))
 
 pub given_numbers : (w : Row) (r : Record) → given w ≡ some r → fields_of r ≡ numbers_of w
 given_numbers w r e = (given_made w r e).numbers

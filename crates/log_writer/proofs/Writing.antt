@@ -8,22 +8,23 @@ use native.Mathlib.Omega.{arith}
 use native.Mathlib.Nat.{add_assoc, add-zero, sub-zero}
 use native.Mathlib.Numerals.{add-one}
 use lib.Dec.{leb, eqb}
-use lib.ListN.{length}
-use borrow.Author.Tests.{le-leb, lt-leb, eq-eqb, eqb-true}
-use Rattle.model.specs.Limits.{e_par, e_nomem}
+use lib.ListN.{length, length-append}
+use borrow.Author.Tests.{le-leb, leb-true, eq-eqb, eqb-true}
 use Rattle.model.specs.Rules.{ok_order}
-use Rattle.model.proofs.Tests.{by, and_l, and_r, and_f_r}
-use Rattle.numbers.specs.Wrote.{Wrote}
-use Rattle.numbers.specs.Fill.{outcome}
-use Rattle.numbers.proofs.Wrote.{Writing, writing_start, writing_next, writing_end}
-use Rattle.numbers.proofs.Fill.{fill-short, fill_done}
+use Rattle.model.proofs.Tests.{by, and_l, and_r}
+use Rattle.output.specs.declared.Output.{Output}
+use Rattle.output.specs.Puts.{Room, Puts, Holds}
+use Rattle.output.specs.Fill.{outcome}
+use Rattle.output.proofs.Puts.{holds_room, puts-whole, Putting, putting_start, putting_room, putting_next, putting_end}
+use Rattle.output.proofs.Fill.{fill-short, fill_done}
 use Rattle.call_log.specs.declared.Record.{Record}
 use Rattle.log_writer.specs.declared.Row.{Row}
-use Rattle.log_writer.specs.declared.Needed.TheVariants.{Length, Refused}
+use Rattle.std.specs.Prelude.{Ok, Err}
+use Rattle.log_writer.specs.declared.WriteError.TheVariants.{Parameter, NoRoom}
 use Rattle.call_log.specs.Fields.{encode_fields, fields_length}
 use Rattle.call_log.specs.Record.{fields_of}
 use Rattle.call_log.specs.Log.{most_records, start_bytes, encode_records, log_of, records_length, log_length, in_front}
-use Rattle.log_writer.specs.Writer.{given, Columns, row_at, given_from, level, writable, written, refusal, write_log}
+use Rattle.log_writer.specs.Writer.{given, Columns, row_at, given_from, level, regular, writable, written, refusal, write_log}
 use Rattle.log_writer.specs.Steps.{Level, Started, is_some, needed_after, needed_for, numbers_of, Counted, rows_bytes}
 use Rattle.call_log.proofs.Logs.{no_some}
 use Rattle.call_log.proofs.LogTheorems.{log-length}
@@ -47,17 +48,9 @@ level_open c h =
     }
 
 module _ (order : ℕ) (c : Columns) where
-  writable-unknown : ok_order order ≡ false → writable order c ≡ none
+  writable-irregular : regular order c ≡ false → writable order c ≡ none
   unfolding writable
-  writable-unknown h = rw h
-
-  writable_many : most_records < length c.kinds → writable order c ≡ none
-  unfolding writable
-  writable_many h = by (ok_order order) (λ k. rw (k, lt-leb (length c.kinds) most_records h)) (λ k. rw k)
-
-  writable_uneven : level c ≡ false → writable order c ≡ none
-  unfolding writable
-  writable_uneven h = by (ok_order order) (λ k. rw (k, and_f_r (leb (length c.kinds) most_records) (level c) h)) (λ k. rw k)
+  writable-irregular h = rw h
 
   pub writable_rows : ok_order order ≡ true → Level c → length c.kinds ≤ most_records → writable order c ≡ given_from c 0 (length c.kinds)
   unfolding writable
@@ -71,6 +64,19 @@ module _ (order : ℕ) (c : Columns) where
         eq-eqb (length c.priorities) (length c.kinds) l.priorities,
       )
 
+  -- what regular columns are
+  pub record Regular : Type 0 where
+    pub known : ok_order order ≡ true
+    pub few : length c.kinds ≤ most_records
+    pub even : Level c
+
+  pub regular_open : regular order c ≡ true → Regular
+  regular_open h = record {
+    known = and_l (ok_order order) _ h;
+    few = leb-true (length c.kinds) most_records (and_l (leb (length c.kinds) most_records) (level c) (and_r (ok_order order) _ h));
+    even = level_open c (and_r (leb (length c.kinds) most_records) (level c) (and_r (ok_order order) _ h));
+  }
+
   -- what is to be written
   pub record Writable (rs : List Record) : Type 0 where
     pub known : ok_order order ≡ true
@@ -79,14 +85,10 @@ module _ (order : ℕ) (c : Columns) where
 
   pub writable_open : (rs : List Record) → writable order c ≡ some rs → Writable rs
   unfolding writable
-  writable_open rs e = by (ok_order order && (leb (length c.kinds) most_records && level c)) tested (λ h. no_some (rw h at e))
+  writable_open rs e = by (regular order c) tested (λ h. no_some (rw h at e))
     where
-      tested : ok_order order && (leb (length c.kinds) most_records && level c) ≡ true → Writable rs
-      tested h = record {
-        known = and_l (ok_order order) _ h;
-        even = level_open c (and_r (leb (length c.kinds) most_records) (level c) (and_r (ok_order order) _ h));
-        rows = rw h at e;
-      }
+      tested : regular order c ≡ true → Writable rs
+      tested h = let t = regular_open h in record { known = t.known; even = t.even; rows = rw h at e }
 
 -- ---- the length needed, row by row
 
@@ -103,14 +105,8 @@ unfolding records_length
 needed_front m r none = refl
 needed_front m r (some rs) = rw (add_assoc m (fields_length (fields_of r)) (records_length rs))
 
-pub refused-order : (n order : ℕ) (c : Columns) → ok_order order ≡ false → Refused ≡ needed_for n order c
-refused-order n order c h = rw (writable-unknown order c h)
-
-pub refused_many : (n order : ℕ) (c : Columns) → most_records < length c.kinds → Refused ≡ needed_for n order c
-refused_many n order c h = rw (writable_many order c h)
-
-pub refused_uneven : (n order : ℕ) (c : Columns) → level c ≡ false → Refused ≡ needed_for n order c
-refused_uneven n order c u = rw (writable_uneven order c u)
+pub refused_irregular : (n order : ℕ) (c : Columns) → regular order c ≡ false → Err Parameter ≡ needed_for n order c
+refused_irregular n order c h = rw (writable-irregular order c h)
 
 -- the first i rows are records, and the log has m bytes up to there
 pub record Measuring (n order : ℕ) (c : Columns) (i m : ℕ) : Type 0 where
@@ -119,13 +115,15 @@ pub record Measuring (n order : ℕ) (c : Columns) (i m : ℕ) : Type 0 where
   pub short : length c.kinds ≤ most_records
   pub few : m ≤ 6 + 25 * i
 
-pub measuring_start : (n order : ℕ) (c : Columns) (m : ℕ) → ok_order order ≡ true → Level c → length c.kinds ≤ most_records → Started n order m → Measuring n order c 0 m
-measuring_start n order c m k l h s = record {
-  same = rw (writable_rows order c k l h, s.bytes, sub-zero (length c.kinds));
-  even = l;
-  short = h;
-  few = s.few;
-}
+pub measuring_start : (n order : ℕ) (c : Columns) (m : ℕ) → regular order c ≡ true → Started n order m → Measuring n order c 0 m
+measuring_start n order c m h s =
+    let t = regular_open order c h in
+    record {
+      same = rw (writable_rows order c t.known t.even t.few, s.bytes, sub-zero (length c.kinds));
+      even = t.even;
+      short = t.few;
+      few = s.few;
+    }
 
 module _ {n order : ℕ} {c : Columns} {i m : ℕ} (g : Measuring n order c i m) where
   module _ (here : i < length c.kinds) {w : Row} (row : w ≡ row_at c i) where
@@ -136,7 +134,7 @@ module _ {n order : ℕ} {c : Columns} {i m : ℕ} (g : Measuring n order c i m)
     unfolding given_from
     next = let k : length c.kinds - i ≡ suc (length c.kinds - (i + 1)) = omega arith in g.same ∙ rw (k, row, add-one i)
 
-    pub measuring_refused : is_some (given w) ≡ false → Refused ≡ needed_for n order c
+    pub measuring_refused : is_some (given w) ≡ false → Err Parameter ≡ needed_for n order c
     measuring_refused e = sym (next ∙ rw (none_open (given w) e))
 
     pub measuring_next : is_some (given w) ≡ true → (b : ℕ) → Counted (numbers_of w) b → Measuring n order c (i + 1) (m + b)
@@ -149,7 +147,7 @@ module _ {n order : ℕ} {c : Columns} {i m : ℕ} (g : Measuring n order c i m)
           few = omega (arith, g.few, count.few, numbers_few w);
         }
 
-  pub measuring_end : length c.kinds ≤ i → Length m ≡ needed_for n order c
+  pub measuring_end : length c.kinds ≤ i → Ok m ≡ needed_for n order c
   unfolding given_from records_length
   measuring_end h = let k : length c.kinds - i ≡ 0 = omega arith in sym (g.same ∙ rw (k, add-zero m))
 
@@ -167,11 +165,11 @@ module _ (c : Columns) (k i : ℕ) where
 -- ---- the whole log
 
 module _ (n order : ℕ) (c : Columns) where
-  needs_none : (x : Option (List Record)) → needed_after (length (start_bytes n order)) x ≡ Refused → x ≡ none
+  needs_none : (x : Option (List Record)) → needed_after (length (start_bytes n order)) x ≡ Err Parameter → x ≡ none
   needs_none none e = refl
   needs_none (some rs) e = absurd (let z : ◌≡◌ {A = ℕ} 0 1 = cc in omega arith)
 
-  pub write_refused : (buf : List ℕ) → needed_for n order c ≡ Refused → outcome (refusal e_par) buf ≡ write_log n order c buf
+  pub write_refused : (buf : List ℕ) → needed_for n order c ≡ Err Parameter → outcome (refusal Parameter) buf ≡ write_log n order c buf
   write_refused buf e = rw (needs_none (writable order c) e)
 
   -- the records of a log of m bytes
@@ -180,11 +178,11 @@ module _ (n order : ℕ) (c : Columns) where
     pub same : writable order c ≡ some records
     pub size : m ≡ log_length n order records
 
-  needs_some : (m : ℕ) (x : Option (List Record)) → writable order c ≡ x → needed_after (length (start_bytes n order)) x ≡ Length m → Measured m
+  needs_some : (m : ℕ) (x : Option (List Record)) → writable order c ≡ x → needed_after (length (start_bytes n order)) x ≡ Ok m → Measured m
   needs_some m none q e = absurd (let z : ◌≡◌ {A = ℕ} 0 1 = cc in omega arith)
   needs_some m (some rs) q e = record { records = rs; same = q; size = cc }
 
-  pub measured : (m : ℕ) → needed_for n order c ≡ Length m → Measured m
+  pub measured : (m : ℕ) → needed_for n order c ≡ Ok m → Measured m
   measured m = needs_some m (writable order c) refl
 
 module _ {n order : ℕ} {c : Columns} {m : ℕ} (g : Measured n order c m) (buf : List ℕ) where
@@ -197,23 +195,27 @@ module _ {n order : ℕ} {c : Columns} {m : ℕ} (g : Measured n order c m) (buf
   size-log : m ≡ length log
   size-log = g.size ∙ sym (log-length n order g.records)
 
-  pub write_short : length buf < m → outcome (refusal e_nomem) buf ≡ write_log n order c buf
-  write_short h = rw g.same (fill-short written (refusal e_nomem) log buf (omega (arith, size-log)))
+  pub write_short : length buf < m → outcome (refusal NoRoom) buf ≡ write_log n order c buf
+  write_short h = rw g.same (fill-short written (refusal NoRoom) log buf (omega (arith, size-log)))
 
   pub start_fits : m ≤ length buf → 0 + length (start_bytes n order) ≤ length buf
   start_fits h = omega (arith, h, g.size)
 
-  module _ (fits : m ≤ length buf) {after : List ℕ} {start : ℕ} (number : Wrote buf 0 (start_bytes n order) after start) where
-    -- behind the start the rows are left to write
-    rest : Writing buf 0 log after start rows
-    rest =
-        rw (given-bytes c 0 (length c.kinds) g.records (writable_open order c g.records g.same).rows)
-        (writing_next (writing_start buf 0 log (omega (arith, size-log))) (encode_records g.records) refl number)
+  module _ (fits : m ≤ length buf) {empty : Output} (made : Holds empty buf 0) where
+    pub start_room : Room (length (start_bytes n order)) empty
+    start_room = holds_room _ made (omega (arith, size-log, length-append (start_bytes n order) (encode_records g.records)))
 
-    pub rows_fit : Level c × (start + length rows ≤ length after)
-    rows_fit = ((writable_open order c g.records g.same).even, omega (arith, rest.place, rest.same, rest.fits))
+    module _ {started : Output} (begun : Puts empty (start_bytes n order) started) where
+      -- behind the start the rows are left to write
+      rest : Putting empty log started rows
+      rest =
+          rw (given-bytes c 0 (length c.kinds) g.records (writable_open order c g.records g.same).rows)
+          (putting_next (putting_start empty log (holds_room (length log) made (omega (arith, size-log)))) (encode_records g.records) refl begun)
 
-    pub write_done : {last : List ℕ} {end : ℕ} → Wrote after start rows last end → outcome (written end) last ≡ write_log n order c buf
-    write_done {last} {end} w =
-        let whole : Wrote buf 0 log last end = writing_end (writing_next rest [] (sym (append-nil rows)) w) refl in
-        rw g.same (fill_done written (refusal e_nomem) log buf (omega (arith, size-log)) whole)
+      pub rows_fit : Level c × Room (length rows) started
+      rows_fit = ((writable_open order c g.records g.same).even, putting_room rest rows [] (sym (append-nil rows)))
+
+      pub write_done : {ended : Output} {last : List ℕ} → Puts started rows ended → last ≡ ended.buffer.now → outcome (written ended.end) last ≡ write_log n order c buf
+      write_done {ended} {last} w e =
+          let whole = puts-whole (putting_end (putting_next rest [] (sym (append-nil rows)) w) refl) made e in
+          rw g.same (fill_done written (refusal NoRoom) log buf (omega (arith, size-log)) whole)

@@ -1,12 +1,12 @@
 -- What the writer's steps answer: the contracts of the functions below `write_log`.
-use Rattle.std.specs.Prelude.{ℕ, zero, suc, ◌+◌, ◌*◌, ◌≤◌, ◌≡◌, Bool, true, false, List, [], ◌∷◌, ◌++◌, length, take}
+use Rattle.std.specs.Prelude.{ℕ, zero, suc, ◌+◌, ◌*◌, ◌≤◌, ◌≡◌, Bool, true, false, List, [], ◌∷◌, ◌++◌, length, take, Result, Ok, Err}
 use Rattle.std.proofs.Math.Option.{Option, none, some}
 use Rattle.call_log.specs.declared.Record.{Record}
 use Rattle.call_log.specs.declared.Kind.{Kind}
 use Rattle.call_log.specs.declared.Kind.TheVariants as kind
 use Rattle.log_writer.specs.declared.Row.{Row}
-use Rattle.log_writer.specs.declared.Needed.{Needed}
-use Rattle.log_writer.specs.declared.Needed.TheVariants.{Length, Refused}
+use Rattle.log_writer.specs.declared.WriteError.{WriteError}
+use Rattle.log_writer.specs.declared.WriteError.TheVariants.{Parameter}
 use Rattle.call_log.specs.Fields.{encode_fields, fields_length}
 use Rattle.call_log.specs.Record.{limit_field, kind_of, field_count}
 use Rattle.call_log.specs.Log.{start_bytes, records_length}
@@ -25,12 +25,12 @@ is_some none = false
 is_some (some r) = true
 
 -- m bytes and those of the records, if there are records
-abbrev pub needed_after : ℕ → Option (List Record) → Needed
-needed_after m none = Refused
-needed_after m (some rs) = Length (m + records_length rs)
+abbrev pub needed_after : ℕ → Option (List Record) → Result ℕ WriteError
+needed_after m none = Err Parameter
+needed_after m (some rs) = Ok (m + records_length rs)
 
 -- the length of the log, where it can be written
-abbrev pub needed_for : ℕ → ℕ → Columns → Needed
+abbrev pub needed_for : ℕ → ℕ → Columns → Result ℕ WriteError
 needed_for n order c = needed_after (length (start_bytes n order)) (writable order c)
 
 -- the start of a log has r bytes, at most five for the pool's length and one for the order

@@ -1,16 +1,18 @@
 -- The log writer: the records that its columns give, and what it answers and leaves in the buffer.
-use Rattle.std.specs.Prelude.{ℕ, zero, suc, ◌<◌, ◌≤◌, Bool, cond, ◌&&◌, List, [], map, leb, eqb, ℤ, pos, length, get_or}
+use Rattle.std.specs.Prelude.{ℕ, zero, suc, ◌<◌, ◌≤◌, Bool, cond, ◌&&◌, List, [], map, leb, eqb, ℤ, pos, length, get_or, Result, Ok, Err}
 use Rattle.std.proofs.Math.Option.{Option, none, some}
-use Rattle.model.specs.Limits.{e_ok, e_par, e_nomem}
+use Rattle.model.specs.Limits.{e_par, e_nomem}
 use Rattle.model.specs.Rules.{ok_order}
 use Rattle.numbers.specs.Number.{number_bound}
-use Rattle.numbers.specs.Fill.{Outcome, Content, Content·bytes, Content·refused, fill}
+use Rattle.output.specs.Fill.{Outcome, Content, Content·bytes, Content·refused, fill}
 use Rattle.call_log.specs.declared.Record.{Record}
 use Rattle.call_log.specs.declared.Record.TheVariants.{Get, Poll, Release, Cancel, Tick, PriorityGet, PriorityPoll}
 use Rattle.call_log.specs.declared.Kind.{Kind}
 use Rattle.call_log.specs.declared.Kind.TheVariants as kind
 pub use Rattle.log_writer.specs.declared.Row.{Row}
-pub use Rattle.log_writer.specs.declared.Written.{Written}
+use Rattle.log_writer.specs.declared.Columns.{Columns as Slices}
+pub use Rattle.log_writer.specs.declared.WriteError.{WriteError}
+use Rattle.log_writer.specs.declared.WriteError.TheVariants.{Parameter, NoRoom}
 use Rattle.call_log.specs.Record.{limit_bound, limit_field, is_limit, kind_of}
 use Rattle.call_log.specs.Log.{most_records, log_of, in_front}
 
@@ -41,6 +43,10 @@ pub record Columns : Type 0 where
 abbrev pub columns : (kinds firsts seconds : List ℕ) → List ℤ → List ℕ → Columns
 columns kinds firsts seconds limits priorities = record { kinds = kinds; firsts = firsts; seconds = seconds; limits = limits; priorities = priorities }
 
+-- the columns that are lent
+abbrev pub lent : Slices → Columns
+lent s = columns s.kinds.now s.firsts.now s.seconds.now s.limits.now s.priorities.now
+
 abbrev pub row_at : Columns → ℕ → Row
 row_at c i =
     record {
@@ -64,27 +70,36 @@ level c =
     && (eqb (length c.limits) (length c.kinds)
     && eqb (length c.priorities) (length c.kinds)))
 
+-- the order is known, and the columns are level and hold at most as many records as a log
+abbrev pub regular : ℕ → Columns → Bool
+regular order c = ok_order order && (leb (length c.kinds) most_records && level c)
+
 -- the records to be written; none where the order is unknown, the columns are not level, there are too many records, or the log can't express one
 unfoldable pub writable : ℕ → Columns → Option (List Record)
-writable order c = cond (ok_order order && (leb (length c.kinds) most_records && level c)) (given_from c 0 (length c.kinds)) none
+writable order c = cond (regular order c) (given_from c 0 (length c.kinds)) none
 
 -- ---- what is answered, and the buffer
 
-abbrev pub written : ℕ → Written
-written n = record { code = e_ok; length = n }
+-- the length of the log
+abbrev pub written : ℕ → Result ℕ WriteError
+written n = Ok n
 
--- a refusal has length 0
-abbrev pub refusal : ℤ → Written
-refusal code = record { code = code; length = 0 }
+abbrev pub refusal : WriteError → Result ℕ WriteError
+refusal e = Err e
+
+-- the code of a refusal
+abbrev pub code_of : WriteError → ℤ
+code_of Parameter = e_par
+code_of NoRoom = e_nomem
 
 -- the log of the records, if there are records
-abbrev pub log_for : ℕ → ℕ → Option (List Record) → Content Written
-log_for n order none = Content·refused (refusal e_par)
+abbrev pub log_for : ℕ → ℕ → Option (List Record) → Content (Result ℕ WriteError)
+log_for n order none = Content·refused (refusal Parameter)
 log_for n order (some rs) = Content·bytes (log_of n order rs)
 
 -- the log is written where the buffer holds it
-abbrev pub write_log : ℕ → ℕ → Columns → List ℕ → Outcome Written
-write_log n order c buf = fill written (refusal e_nomem) (log_for n order (writable order c)) buf
+abbrev pub write_log : ℕ → ℕ → Columns → List ℕ → Outcome (Result ℕ WriteError)
+write_log n order c buf = fill written (refusal NoRoom) (log_for n order (writable order c)) buf
 
 -- ---- columns of records
 

@@ -1,4 +1,4 @@
--- The definitions give the examples of document 01, of size kinds and of priorities, and states that meet the theorems' hypotheses, by computation. Stands on no lemma.
+-- The definitions give the examples of blocks and queue, of size kinds and of priorities, and states that meet the theorems' hypotheses, by computation. Stands on no lemma.
 use Prim.Native.Nat.{ℕ}
 use mathlib.Core.Path.{◌≡◌, refl}
 use mathlib.Core.Bool.{Bool, true, false, ◌&&◌}

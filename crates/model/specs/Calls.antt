@@ -204,7 +204,7 @@ module _ (K : Rules) {P : Type 0} (E : Store P) where
   head_stuck p [] = true
   head_stuck p (e ∷ q) = not (fitting e p)
 
-  -- *Sound*: pool and queue are as document 01 has them, and the head fits no free run
+  -- *Sound*: pool and queue are as calls leave them, and the head fits no free run
   unfoldable pub sound : State P → Bool
   sound s = K.valid && (E.sound s.pool && (queued K s.queue && head_stuck s.pool s.queue))
 

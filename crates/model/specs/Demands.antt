@@ -72,7 +72,7 @@ pub record ServedAt {S : Type 0} (step : Call → S → Reply S) (s : S) (t n : 
   pub waiting : end_code t (run step s before) ≡ none
   pub woken : wake_code t (step (release last) (after step s before)).said.woken ≡ some e_ok
 
--- The bound is reached from a sound state of document 01's pool with so many live blocks and a task at the place k of the queue.
+-- The bound is reached from a sound state of a pool without choices with so many live blocks and a task at the place k of the queue.
 pub record Reached (live k : ℕ) : Type 0 where
   pub from : Stored
   pub task : ℕ

@@ -5,6 +5,7 @@ pub mod Sizes
 pub mod Rules
 pub mod Calls
 pub mod Refusals
+pub mod Errors
 pub mod Runs
 pub mod Bytes
 pub mod Places

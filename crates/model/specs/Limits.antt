@@ -1,4 +1,4 @@
--- The limits of document 01, the choices of create, and the codes that a call answers.
+-- The limits of a pool, the choices of create, and the codes that a call answers.
 use Rattle.std.specs.Prelude.{ℕ, ◌+◌, ◌-◌, ℤ, pos, negsuc}
 
 -- ---- limits

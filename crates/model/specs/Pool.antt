@@ -18,7 +18,7 @@ pub record Stored : Type 0 where
 abbrev pub stored : List ℕ → Queue → Stored
 stored l q = record { bytes = l; queue = q }
 
--- the attributes of document 01's pool, and of the queue that a refused create hands out
+-- the attributes of a pool without choices, and of the queue that a refused create hands out
 abbrev pub defaults : Attributes
 defaults = record { kinds = without_kinds; greatest = 0; order = fifo_order }
 

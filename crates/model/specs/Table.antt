@@ -198,7 +198,7 @@ row_k n most =
       bytes = head n 1 ++ body (n - 8);
     }
 
--- l, as document 02 has it: the first tick wakes nobody, the second ends the wait
+-- l: the first tick wakes nobody, the second ends the wait
 abbrev pub row_l : Row
 row_l =
     record {
@@ -227,7 +227,7 @@ row_longest =
       bytes = bytes_c;
     }
 
--- beside document 01's: a rest of 12 bytes is split off, a rest of 8 is not
+-- beside the examples: a rest of 12 bytes is split off, a rest of 8 is not
 abbrev pub row_split : Row
 row_split =
     record {

@@ -1,6 +1,10 @@
 // The values that the calls of the pool take and answer.
 #![tactic(auto)]
 
+mod errors;
+
+pub use errors::{CallError, Misplaced};
+
 // Tasks are numbered 1 to TASKS; the queue and the list of woken tasks have as many places.
 pub const TASKS: usize = 32;
 
@@ -40,15 +44,16 @@ pub const ALREADY_FREE: u32 = 3;
 pub const INSIDE_BLOCK: u32 = 4;
 
 // The offset of a block, as handed to tasks: the place of its header plus 8.
-#[derive(Clone, Copy)]
+#[derive(Clone, Copy, Debug, Default, PartialEq, Eq)]
 pub struct BlockOffset(pub usize);
 
 // The place of a header in the pool.
-#[derive(Clone, Copy)]
+#[derive(Clone, Copy, Debug, Default, PartialEq, Eq)]
 pub struct HeaderPlace(pub usize);
 
-// A waiting request: the task, the priority, 1 best, the size as asked, and the ticks left (FOREVER: no limit). All zeros: an unused place.
-#[derive(Clone, Copy)]
+// A waiting request: the task, the priority, 1 best, the size as asked, and the ticks left (FOREVER: no limit). All zeros: an unused place, and no None,
+// since a call takes any entries and tests these zeros.
+#[derive(Clone, Copy, Debug, Default, PartialEq, Eq)]
 pub struct Entry {
     pub task: u16,
     pub priority: u16,
@@ -72,14 +77,15 @@ pub const FIFO_ORDER: u16 = 0;
 pub const PRIORITY_ORDER: u16 = 1;
 
 // What create is told of a pool, and the queue keeps: the choices of rounding and of order, and the greatest request of a pool with kinds (0 without).
-#[derive(Clone, Copy)]
+// The choices are numbers, since any may be handed in: an unknown one is refused.
+#[derive(Clone, Copy, Debug, Default, PartialEq, Eq)]
 pub struct Attributes {
     pub kinds: u16,
     pub order: u16,
     pub greatest: u32,
 }
 
-// Those of document 01's pool, all zeros.
+// Without kinds and by arrival: all zeros.
 pub const DEFAULTS: Attributes = Attributes {
     kinds: WITHOUT_KINDS,
     order: FIFO_ORDER,
@@ -93,8 +99,9 @@ pub struct Queue {
     pub entries: [Entry; TASKS],
 }
 
-// A task whose wait ended: with code 0 and the offset of its block, or with another code and offset 0. All zeros: an unused place.
-#[derive(Clone, Copy)]
+// A task whose wait ended: with code 0 and the offset of its block, or with another code and offset 0. All zeros: an unused place. The code is a number,
+// as in an Answer.
+#[derive(Clone, Copy, Debug, Default, PartialEq, Eq)]
 pub struct Woken {
     pub task: u32,
     pub code: i32,
@@ -102,7 +109,8 @@ pub struct Woken {
 }
 
 // What a call answers, with the queue that it leaves. Reason and place are those of a refused release, and 0 in every other answer; the place is
-// the header of the block that holds the offset, and 0 where the offset is out of range or no multiple of 4.
+// the header of the block that holds the offset, and 0 where the offset is out of range or no multiple of 4. Code and reason are the numbers that
+// `called` and the table of refusals tell; within the calls a refusal is a CallError.
 #[derive(Clone, Copy)]
 pub struct Answer {
     pub code: i32,
@@ -113,7 +121,7 @@ pub struct Answer {
     pub queue: Queue,
 }
 
-// What inquire answers: the sum and the greatest of the free runs, each less its header, and the head's task or 0.
+// What inquire answers: the sum and the greatest of the free runs, each less its header, and the head's task or 0. The code is a number, as in an Answer.
 #[derive(Clone, Copy)]
 pub struct Totals {
     pub code: i32,

@@ -7,8 +7,7 @@ use native.Mathlib.Omega.{arith}
 use native.Mathlib.Numerals.{add-one}
 use lib.ListN.{length, take}
 use borrow.Author.Tests.{lt-ltb, le-ltb, ne_eqb}
-use Rattle.numbers.specs.declared.Number.TheVariants.{Value}
-use Rattle.numbers.specs.Number.{Bytes, decode, groups, encode}
+use Rattle.numbers.specs.Number.{number, Bytes, decode, groups, encode}
 use Rattle.numbers.proofs.Decode.{side, decode_one, decode-more, decode_ind}
 
 -- the clauses of encoding
@@ -40,14 +39,14 @@ encode-more (suc m) h =
     groups-more m (suc m) h ∙ rw (groups_enough m (suc m / 128) (suc m / 128) (omega arith) (omega arith))
 
 -- what is written is read back, whatever follows
-written_group : (k n : ℕ) (s : List ℕ) → 128 ≤ n → decode (groups k (n / 128) ++ s) ≡ Value (n / 128) (length (groups k (n / 128)))
-    → decode (groups (suc k) n ++ s) ≡ Value n (length (groups (suc k) n))
+written_group : (k n : ℕ) (s : List ℕ) → 128 ≤ n → decode (groups k (n / 128) ++ s) ≡ number (n / 128) (length (groups k (n / 128)))
+    → decode (groups (suc k) n ++ s) ≡ number n (length (groups (suc k) n))
 written_group k n s h e =
     let z : (n / 128 ≡ 0 → ⊥) = λ q. omega arith in
     let q : n % 128 + 128 - 128 + 128 * (n / 128) ≡ n = omega arith in
     rw (groups-more k n h, decode-more (n % 128 + 128) (groups k (n / 128) ++ s) (omega arith), e, ne_eqb (n / 128) 0 z, q, add-one)
 
-pub decode-groups : (k n : ℕ) (s : List ℕ) → n ≤ k → decode (groups k n ++ s) ≡ Value n (length (groups k n))
+pub decode-groups : (k n : ℕ) (s : List ℕ) → n ≤ k → decode (groups k n ++ s) ≡ number n (length (groups k n))
 decode-groups zero n s l = rw (groups-last 0 n (omega arith), decode_one n s (omega arith))
 decode-groups (suc k) n s l =
     ⊎_elim
@@ -62,7 +61,7 @@ read_group b s w m h g p ih =
     let r : (b - 128 + 128 * w) % 128 + 128 ≡ b = omega arith in
     rw (encode-more (b - 128 + 128 * w) (omega arith), q, r, add-one m, ← ih)
 
-pub take-decode : (s : List ℕ) (v n : ℕ) → decode s ≡ Value v n → Bytes s → take n s ≡ encode v
+pub take-decode : (s : List ℕ) (v n : ℕ) → decode s ≡ number v n → Bytes s → take n s ≡ encode v
 take-decode =
     decode_ind (λ s v n. Bytes s → take n s ≡ encode v)
     (λ b s h bs. rw (encode-last b h))

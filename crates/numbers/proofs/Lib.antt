@@ -3,6 +3,4 @@ pub mod Encode
 pub mod Theorems
 pub mod Examples
 pub mod Reading
-pub mod Wrote
 pub mod Writing
-pub mod Fill

@@ -8,19 +8,72 @@ use native.Mathlib.Omega.{arith}
 use native.Mathlib.Nat.{add-zero, zero-add, mul-add, mul_assoc, mul-le-mul, mul-le-mul_left, pow-suc, pow-le-pow_right}
 use native.Mathlib.Numerals.{add-one}
 use lib.Dec.{eqb, lit<}
-use lib.ListN.{length, drop, get_or, drop_of_length-le}
+use lib.ListN.{length, drop, get_or, drop_of_length-le, length-drop}
+use Rattle.std.specs.List.{enumerate_from}
+use Rattle.std.proofs.lemmas.List.{get_or_default}
+use Rattle.std.proofs.lemmas.List.FromFn.{length-enumerate_from, get_or-enumerate_from}
 use lib.Seq.{drop-cons, get_or-drop}
 use borrow.Author.Tests.{ne_eqb, eqb-false}
+use Rattle.std.specs.Prelude.{Option, Some, None}
+use Rattle.std.proofs.Common.{Iter, Bor}
+use Rattle.std.specs.declared.iter.Skip.{Skip}
+use Rattle.std.specs.declared.iter.Enumerate.{Enumerate}
+use Rattle.std.proofs.iter.Yields.{fronts}
+use Rattle.std.specs.Iterator.{Yields}
+use Rattle.std.specs.Iterator.Adapters.{skip_source, skip_count, skip_steps, enumerate_source, enumerate_count, enumerate_steps}
+use Rattle.std.specs.Slice.Iter.{iter_rest}
+use Rattle.std.proofs.lemmas.Iterator.{YieldsList, YieldsList-from_slice}
+use Rattle.std.proofs.lemmas.Iterator.Consumers.{YieldsList-turn, YieldsList-end, YieldsList-from_enumerate}
+use Rattle.std.proofs.lemmas.Iterator.Adapters.{YieldsList-from_skip}
 use Rattle.numbers.specs.declared.Number.{Number}
-use Rattle.numbers.specs.declared.Number.TheVariants.{Value, Refused}
-use Rattle.numbers.specs.Number.{more, decode, bounded, number_of, number_bound}
+use Rattle.numbers.specs.Number.{number, more, decode, bounded, number_of, number_bound}
 use Rattle.numbers.proofs.Decode.{side, decode_one, decode-more, decode-first, bounded-small, bounded_large}
 
+-- the bytes from the second on, each with its place, as the loop goes over them
+abbrev pub places : List ℕ → List (ℕ × ℕ)
+places s = drop 1 (enumerate_from 0 s)
+
+-- the byte b of the place i, with n between it and the first
+pub record Byte (s : List ℕ) (n i b : ℕ) : Type 0 where
+  pub inside : n + 1 < length s
+  pub place : i ≡ n + 1
+  pub byte : b ≡ get_or s (n + 1) 0
+
+pub places_next : (s : List ℕ) (n i b : ℕ) → (n < length (places s)) × ((i, b) ≡ get_or (places s) n (i, b)) → Byte s n i b
+places_next s n i b h =
+    let inside : n + 1 < length s = omega (arith, simp (length-drop, length-enumerate_from) at h.0) in
+    let next : 1 + n ≡ n + 1 = omega arith in
+    let e : (i, b) ≡ (n + 1, get_or s (n + 1) b) = h.1 ∙ rw (get_or-drop 1 (enumerate_from 0 s) n (i, b), next, get_or-enumerate_from 0 s (n + 1) (i, b) inside, zero-add (n + 1)) in
+    record {
+      inside = inside;
+      place = ap (λ (p : ℕ × ℕ). p.0) e;
+      byte = ap (λ (p : ℕ × ℕ). p.1) e ∙ get_or_default s (n + 1) b 0 inside;
+    }
+
+-- what `s.iter().enumerate().skip(1)` yields, as `all`, where it has yielded xs and `left` is left
+pub record Yielded (s : List ℕ) (xs : List (ℕ × Bor ℕ)) (left : Skip (Enumerate (Iter ℕ))) : Type 0 where
+  pub all : Skip (Enumerate (Iter ℕ))
+  pub so_far : Yields (skip_steps (enumerate_steps fronts)) all xs left
+  pub rest : iter_rest (enumerate_source (skip_source all)) ≡ s
+  pub from : enumerate_count (skip_source all) ≡ 0
+  pub skipped : skip_count all ≡ 1
+
+module _ {s : List ℕ} {xs : List (ℕ × Bor ℕ)} {left : Skip (Enumerate (Iter ℕ))} (y : Yielded s xs left) where
+  road : YieldsList (skip_steps (enumerate_steps fronts)) (λ p. (p.0, p.1.now)) y.all (places s)
+  road = YieldsList-from_skip 1 (YieldsList-from_enumerate (YieldsList-from_slice s y.rest) y.from) y.skipped
+
+  pub reading_byte : (r : Option (ℕ × Bor ℕ)) (next : Skip (Enumerate (Iter ℕ))) (i : ℕ) (b : Bor ℕ) → r ≡ Some (i, b)
+      → skip_steps (enumerate_steps fronts) left r next → Byte s (length xs) i b.now
+  reading_byte r next i b e turn = places_next s (length xs) i b.now (YieldsList-turn road xs left y.so_far r next (i, b) e turn)
+
+  pub reading_past : (r : Option (ℕ × Bor ℕ)) (next : Skip (Enumerate (Iter ℕ))) → r ≡ None → skip_steps (enumerate_steps fronts) left r next → length s ≤ length xs + 1
+  reading_past r next e turn = omega (arith, simp (length-drop, length-enumerate_from) at (YieldsList-end road xs left y.so_far r next e turn).1)
+
 -- i bytes of value v in front of a number, whose groups begin at weight w
-abbrev pub extend : ℕ → ℕ → ℕ → Number → Number
+abbrev pub extend : ℕ → ℕ → ℕ → Option Number → Option Number
 extend v w zero r = r
-extend v w (suc i) (Value x n) = cond (eqb x 0) Refused (Value (v + w * x) (suc i + n))
-extend v w (suc i) Refused = Refused
+extend v w (suc i) (Some x) = cond (eqb x.value 0) None (number (v + w * x.value) (suc i + x.size))
+extend v w (suc i) None = None
 
 -- the first i bytes of s are groups of value v, and the next group weighs w
 pub record Reading (s : List ℕ) (v w i : ℕ) : Type 0 where
@@ -39,28 +92,28 @@ Shortest s i = get_or s i 0 ≡ 0 → i ≡ 0
 pub reading_start : (s : List ℕ) → Reading s 0 1 0
 reading_start s = record { same = refl; weight = refl; below = omega arith; few = omega arith }
 
-extend_refused : (v w i : ℕ) → extend v w i Refused ≡ Refused
+extend_refused : (v w i : ℕ) → extend v w i None ≡ None
 extend_refused v w zero = refl
 extend_refused v w (suc i) = refl
 
-extend_value : (v w i x n : ℕ) → w ≡ 128 ^ i → v < w → (x ≡ 0 → i ≡ 0) → extend v w i (Value x n) ≡ Value (v + w * x) (i + n)
+extend_value : (v w i x n : ℕ) → w ≡ 128 ^ i → v < w → (x ≡ 0 → i ≡ 0) → extend v w i (number x n) ≡ number (v + w * x) (i + n)
 extend_value v w zero x n h l z =
     let p : v ≡ 0 = omega arith in let q : w ≡ 1 = omega arith in
-    rw (p, q, zero-add n) (ap (λ (a : ℕ). Value a n) (omega arith))
+    rw (p, q, zero-add n) (ap (λ (a : ℕ). number a n) (omega arith))
 extend_value v w (suc i) x n h l z = rw (ne_eqb x 0 (λ q. let o = z q in omega arith))
 
-extend_zero : (v w i n : ℕ) → 0 < i → extend v w i (Value 0 n) ≡ Refused
+extend_zero : (v w i n : ℕ) → 0 < i → extend v w i (number 0 n) ≡ None
 extend_zero v w zero n h = absurd (omega arith)
 extend_zero v w (suc i) n h = refl
 
 module _ (v w i b : ℕ) (h : w ≡ 128 ^ i) (l : v < w) where
-  extend_more : (r : Number) → extend v w i (more b r) ≡ extend (v + w * (b - 128)) (w * 128) (i + 1) r
-  extend_more Refused = extend_refused v w i ∙ rw (add-one i)
-  extend_more (Value x n) = go (eqb x 0) refl
+  extend_more : (r : Option Number) → extend v w i (more b r) ≡ extend (v + w * (b - 128)) (w * 128) (i + 1) r
+  extend_more None = extend_refused v w i ∙ rw (add-one i)
+  extend_more (Some y) = let record { value = x; size = n } = y in go x n (eqb x 0) refl
     where
-      go : (t : Bool) → eqb x 0 ≡ t → extend v w i (more b (Value x n)) ≡ extend (v + w * (b - 128)) (w * 128) (i + 1) (Value x n)
-      go true q = rw (add-one i, q) (extend_refused v w i)
-      go false q =
+      go : (x n : ℕ) (t : Bool) → eqb x 0 ≡ t → extend v w i (more b (number x n)) ≡ extend (v + w * (b - 128)) (w * 128) (i + 1) (number x n)
+      go x n true q = rw (add-one i, q) (extend_refused v w i)
+      go x n false q =
           let z : (x ≡ 0 → ⊥) = eqb-false x 0 q in
           let y : (b - 128 + 128 * x ≡ 0 → ⊥) = λ o. z (omega arith) in
           let a : w * (b - 128 + 128 * x) ≡ w * (b - 128) + w * 128 * x = rw (mul-add w (b - 128) (128 * x), mul_assoc w 128 x) in
@@ -89,7 +142,7 @@ module _ {s : List ℕ} {v w i : ℕ} (g : Reading s v w i) where
           omega (arith, weight_bound w i 4 (get_or s i 0 + 1) 16 g.weight g.few (omega arith))
 
   -- at the end of the bytes
-  pub reading_end : length s ≤ i → Refused ≡ number_of s
+  pub reading_end : length s ≤ i → None ≡ number_of s
   unfolding decode
   reading_end h = rw (g.same, drop_of_length-le s h, extend_refused v w i)
 
@@ -97,15 +150,15 @@ module _ {s : List ℕ} {v w i : ℕ} (g : Reading s v w i) where
     next : decode s ≡ extend v w i (decode (get_or s i 0 ∷ drop (suc i) s))
     next = g.same ∙ rw (drop-cons s i 0 here)
 
-    last : get_or s i 0 < 128 → decode s ≡ extend v w i (Value (get_or s i 0) 1)
+    last : get_or s i 0 < 128 → decode s ≡ extend v w i (number (get_or s i 0) 1)
     last h = next ∙ rw (decode_one (get_or s i 0) (drop (suc i) s) h)
 
     -- at a last byte of 0 that is not the only byte
-    pub reading_zero : get_or s i 0 ≡ 0 → 0 < i → Refused ≡ number_of s
+    pub reading_zero : get_or s i 0 ≡ 0 → 0 < i → None ≡ number_of s
     reading_zero z p = rw (last (omega arith), z, extend_zero v w i 1 p)
 
     -- at a last byte
-    pub reading_last : get_or s i 0 < 128 → Fifth s i → Shortest s i → Value (v + w * get_or s i 0) (i + 1) ≡ number_of s
+    pub reading_last : get_or s i 0 < 128 → Fifth s i → Shortest s i → number (v + w * get_or s i 0) (i + 1) ≡ number_of s
     reading_last h f z =
         rw (last h, extend_value v w i (get_or s i 0) 1 g.weight g.below z)
         (sym (bounded-small (v + w * get_or s i 0) (i + 1) (reading_fits h f)))
@@ -123,12 +176,13 @@ module _ {s : List ℕ} {v w i : ℕ} (g : Reading s v w i) where
         }
 
     -- at a fifth byte above 15
-    pub reading_fifth : i ≡ 4 → 15 < get_or s i 0 → Refused ≡ number_of s
+    pub reading_fifth : i ≡ 4 → 15 < get_or s i 0 → None ≡ number_of s
     reading_fifth z h = rw g.same (go (decode (drop i s)) refl)
       where
-        go : (r : Number) → decode (drop i s) ≡ r → Refused ≡ bounded (extend v w i r)
-        go Refused e = rw (extend_refused v w i)
-        go (Value x n) e =
+        go : (r : Option Number) → decode (drop i s) ≡ r → None ≡ bounded (extend v w i r)
+        go None e = rw (extend_refused v w i)
+        go (Some y) e =
+            let record { value = x; size = n } = y in
             let k : w ≡ 128 ^ 4 = rw z at g.weight in
             let f : get_or (drop i s) 0 0 ≡ get_or s i 0 = get_or-drop i s 0 0 ∙ rw (add-zero i) in
             let m : 16 ≤ x = ⊎_elim (λ q. omega (arith, q.1)) (λ q. omega arith) (decode-first (drop i s) x n e) in

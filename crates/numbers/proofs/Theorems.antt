@@ -8,28 +8,27 @@ use native.Mathlib.Nat.{mul-le-mul, pow-le-pow_right}
 use lib.Dec.{lit<}
 use lib.ListN.{length, take, drop, get_or}
 use lib.Seq.{length-take-le, drop_at}
-use Rattle.numbers.specs.declared.Number.TheVariants.{Value}
-use Rattle.numbers.specs.Number.{Bytes, decode, encode, number_of, number_bound}
-use Rattle.numbers.specs.Wrote.{Wrote}
+use Rattle.numbers.specs.Number.{number, Bytes, decode, encode, number_of, number_bound}
+use Rattle.output.specs.Wrote.{Wrote}
 use Rattle.numbers.proofs.Decode.{side, Last, decode-length, decode-first, decode-last, bounded_value, bounded-small, number_decode}
 use Rattle.numbers.proofs.Encode.{decode-groups, take-decode}
-use Rattle.numbers.proofs.Wrote.{wrote-parts}
+use Rattle.output.proofs.Wrote.{wrote-parts}
 
 -- what is written is read back, whatever follows
-pub decode-encode : (v : ℕ) (rest : List ℕ) → decode (encode v ++ rest) ≡ Value v (length (encode v))
+pub decode-encode : (v : ℕ) (rest : List ℕ) → decode (encode v ++ rest) ≡ number v (length (encode v))
 decode-encode v rest = decode-groups v v rest (omega arith)
 
 module _ (s : List ℕ) (v n : ℕ) where
   -- what is read is what would be written
-  pub encode-decode : decode s ≡ Value v n → Bytes s → take n s ≡ encode v
+  pub encode-decode : decode s ≡ number v n → Bytes s → take n s ≡ encode v
   encode-decode = take-decode s v n
 
   -- so a number has one form
-  pub decode_unique : (t : List ℕ) (m : ℕ) → decode s ≡ Value v n → decode t ≡ Value v m → Bytes s → Bytes t → take n s ≡ take m t
+  pub decode_unique : (t : List ℕ) (m : ℕ) → decode s ≡ number v n → decode t ≡ number v m → Bytes s → Bytes t → take n s ≡ take m t
   decode_unique t m e f bs bt = take-decode s v n e bs ∙ sym (take-decode t v m f bt)
 
   -- the shortest: a last byte of 0 only if it is the only byte
-  pub decode_shortest : decode s ≡ Value v n → get_or s (n - 1) 0 ≡ 0 → n ≡ 1
+  pub decode_shortest : decode s ≡ number v n → get_or s (n - 1) 0 ≡ 0 → n ≡ 1
   decode_shortest e z = ⊎_elim (λ q. q.0) many (decode-first s v n e)
     where
       many : 128 ≤ v → n ≡ 1
@@ -38,10 +37,10 @@ module _ (s : List ℕ) (v n : ℕ) where
           absurd (omega (arith, (decode-last s v n e (n - 1) q).positive (omega arith)))
 
 -- what is written below 2^32 is read back, whatever follows
-pub number_encode : (v : ℕ) (rest : List ℕ) → v < number_bound → number_of (encode v ++ rest) ≡ Value v (length (encode v))
+pub number_encode : (v : ℕ) (rest : List ℕ) → v < number_bound → number_of (encode v ++ rest) ≡ number v (length (encode v))
 number_encode v rest h = rw (decode-encode v rest) (bounded-small v (length (encode v)) h)
 
-module _ (s : List ℕ) (v n : ℕ) (e : number_of s ≡ Value v n) where
+module _ (s : List ℕ) (v n : ℕ) (e : number_of s ≡ number v n) where
   pub number_small : v < number_bound
   number_small = (bounded_value (decode s) v n e).1
 
@@ -82,7 +81,7 @@ encode-length v h =
 
 -- what was written into a buffer is read there
 pub number_wrote : {before after : List ℕ} {at next v : ℕ} → Wrote before at (encode v) after next → at + length (encode v) ≤ length before
-    → v < number_bound → number_of (drop at after) ≡ Value v (length (encode v))
+    → v < number_bound → number_of (drop at after) ≡ number v (length (encode v))
 number_wrote {before} {after} {at} {next} {v} w fits h =
     let front : length (take at before) ≡ at = length-take-le at before (omega arith) in
     rw (wrote-parts w fits, append_assoc, drop_at (take at before) (encode v ++ drop (at + length (encode v)) before) at front)

@@ -3,55 +3,56 @@
 
 ghost use Rattle.std.specs.Prelude.{◌≡◌, length};
 ghost use Rattle.numbers.specs.Number.{number_of, encode};
-ghost use Rattle.numbers.specs.Wrote.{Wrote, fitted};
+ghost use Rattle.output.specs.Wrote.{fitted};
+ghost use Rattle.output.specs.Puts.{Puts};
 
-#[derive(Clone, Copy)]
-pub enum Number {
-    // the number, and the count of its bytes
-    Value(u32, usize),
-    // cut off, not in the shortest form, or not below 2^32
-    Refused,
+use output::Output;
+
+#[derive(Clone, Copy, Debug, PartialEq, Eq)]
+pub struct Number {
+    pub value: u32,
+    // the count of its bytes
+    pub size: usize,
 }
 
 // The greatest fifth byte of a number below 2^32.
 const FIFTH_MOST: u32 = 15;
 
-// The number at the start of s.
-pub fn read_number(s: &[u8]) -> Number
+// The number at the start of s: none where it is cut off, not in the shortest form, or not below 2^32.
+pub fn read_number(s: &[u8]) -> Option<Number>
     ensures { result ≡ number_of s.now }
 {
-    if s.len() == 0 {
-        return Number::Refused;
-    }
     // most numbers of a log have one byte
-    let first = s[0] as u32;
+    let first = u32::from(*s.first()?);
     let is_whole = first < 128;
     if is_whole {
-        return Number::Value(first, 1);
+        return Some(Number {
+            value: first,
+            size: 1,
+        });
     }
     let mut value = first - 128;
-    let mut weight: u32 = 128;
-    let mut i: usize = 1;
-    while i < s.len() {
-        let b = s[i] as u32;
-        if FIFTH_MOST < b {
-            if i == 4 {
-                return Number::Refused;
-            }
+    let mut weight = 128;
+    for (i, &byte) in s.iter().enumerate().skip(1) {
+        let byte = u32::from(byte);
+        if i == 4 && FIFTH_MOST < byte {
+            return None;
         }
-        if b < 128 {
+        if byte < 128 {
             // in the shortest form a last byte of 0 is the only byte
-            let is_empty = b == 0;
+            let is_empty = byte == 0;
             if is_empty {
-                return Number::Refused;
+                return None;
             }
-            return Number::Value(value + weight * b, i + 1);
+            return Some(Number {
+                value: value + weight * byte,
+                size: i + 1,
+            });
         }
-        value = value + weight * (b - 128);
-        weight = weight * 128;
-        i += 1;
+        value += weight * (byte - 128);
+        weight *= 128;
     }
-    Number::Refused
+    None
 }
 
 // How many bytes v has.
@@ -59,32 +60,28 @@ pub fn number_length(v: u32) -> usize
     ensures { result ≡ length (encode v) }
 {
     let mut n = v;
-    let mut count: usize = 1;
+    let mut count = 1;
     while 128 <= n {
-        n = n / 128;
+        n /= 128;
         count += 1;
     }
     count
 }
 
-// Writes v from the place `at` of buf on, and answers the place after it. Where v does not fit, buf keeps every byte and
-// the answer is `at`.
-pub fn write_number(buf: &mut [u8], at: usize, v: u32) -> usize
-    ensures { Wrote buf.old at (fitted buf.old at (encode v)) buf.new result }
+// Writes v. Where it does not fit, nothing is written.
+pub fn write_number(out: &mut Output, v: u32)
+    ensures { Puts out.old (fitted out.old.buffer.now out.old.end (encode v)) out.new }
 {
-    if buf.len() < at {
-        return at;
-    }
-    if buf.len() - at < number_length(v) {
-        return at;
+    // no room behind the end, and a number has at least one byte
+    let room = out.buffer.len().saturating_sub(out.end);
+    let is_short = room < number_length(v);
+    if is_short {
+        return;
     }
     let mut n = v;
-    let mut i = at;
     while 128 <= n {
-        buf[i] = (n % 128 + 128) as u8;
-        n = n / 128;
-        i += 1;
+        out.put_byte((n % 128 + 128) as u8);
+        n /= 128;
     }
-    buf[i] = n as u8;
-    i + 1
+    out.put_byte(n as u8);
 }

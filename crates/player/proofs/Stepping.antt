@@ -1,19 +1,26 @@
 -- A step of a log: the loop that writes a line for each woken task, and the call with both texts. Assumes nothing.
 use Prim.Native.Nat.{ℕ, zero, suc, ◌+◌, ◌*◌, ◌<◌, ◌≤◌}
-use mathlib.Core.Path.{◌≡◌, refl, ap}
+use mathlib.Core.Path.{◌≡◌, refl, sym, ap, ◌∙◌}
 use mathlib.Core.List.{List, [], ◌∷◌, ◌++◌, append_assoc, append-nil}
 use native.Mathlib.Omega.{arith}
 use native.Mathlib.Numerals.{add-one}
+use mir.Syntax.{w32}
+use mir.Val.{SFits, to_z, of_z}
+use mir.ValLaws.{to_z-of_z}
 use lib.ListN.{length, take, get_or}
+use Rattle.std.specs.Prelude.{Option, Some, Ok}
 use Rattle.model.specs.declared.Answer.{Answer}
 use Rattle.model.specs.declared.Queue.{Queue}
 use Rattle.model.specs.declared.Woken.{Woken}
 use Rattle.model.specs.Limits.{most_tasks}
 use Rattle.model.specs.Places.{no_woken, pad}
 use Rattle.model.specs.Pool.{Result, Stored, stored, result_of, called}
-use Rattle.numbers.specs.Wrote.{Wrote}
-use Rattle.numbers.proofs.Wrote.{wrote-append}
+use Rattle.output.specs.declared.Output.{Output}
+use Rattle.output.specs.Puts.{Puts}
+use Rattle.output.proofs.Puts.{puts-append}
 use Rattle.call_log.specs.declared.Record.{Record}
+use Rattle.call_log.specs.declared.Taken.{Taken}
+use Rattle.call_log.specs.Record.{Read, taken, record_of}
 use Rattle.transcript.specs.Lines.{answer_line, woken_line, longest_answer, longest_line}
 use Rattle.transcript.specs.Transcript.{call_of, woken_text, answer_text}
 use Rattle.player.specs.Steps.{reply_to, Stepped}
@@ -35,28 +42,36 @@ take_more [] i h = absurd (h refl)
 take_more (w ∷ ws) zero h = refl
 take_more (w ∷ ws) (suc i) h = ap (λ (k : List Woken). w ∷ k) (take_more ws i h)
 
--- in the buffer l₀ from the place `start` on, behind the line of the answer, which begins at `at`
-pub record Writing (at : ℕ) (l₀ : List ℕ) (start : ℕ) (ws : List Woken) (l : List ℕ) (next i : ℕ) : Type 0 where
+-- behind `start`, where the line of the answer ends
+pub record Writing (start : Output) (ws : List Woken) (out : Output) (i : ℕ) : Type 0 where
   pub within : i ≤ most_tasks
-  pub wrote : Wrote l₀ start (woken_text (take i ws)) l next
+  pub puts : Puts start (woken_text (take i ws)) out
   pub named : Named (take i ws)
-  pub short : next ≤ at + (longest_answer + i * longest_line)
+  pub short : out.end ≤ start.end + i * longest_line
 
-pub writing_starts : {at start : ℕ} (l : List ℕ) (ws : List Woken) → start ≤ at + longest_answer → Writing at l start ws l start 0
+pub writing_starts : (out : Output) (ws : List Woken) → Writing out ws out 0
 unfolding woken_text Named
-writing_starts l ws h = record { within = omega arith; wrote = record { place = omega arith; stored = refl }; named = tt; short = omega arith }
+writing_starts out ws = record {
+  within = omega arith;
+  puts = record { same_reference = refl; wrote = record { place = omega arith; stored = refl } };
+  named = tt;
+  short = omega arith;
+}
 
-pub writing_more : {at start next next' i : ℕ} {l₀ l l' : List ℕ} {ws : List Woken} → Writing at l₀ start ws l next i → i < most_tasks
-    → ((get_or ws i no_woken).task ≡ 0 → ⊥) → Wrote l next (line_of (get_or ws i no_woken)) l' next' → length (line_of (get_or ws i no_woken)) ≤ longest_line
-    → Writing at l₀ start ws l' next' (i + 1)
+-- the line that was written is of the code as a value of 32 bits
+pub writing_more : {start out out' : Output} {i : ℕ} {ws : List Woken} → Writing start ws out i → i < most_tasks
+    → ((get_or ws i no_woken).task ≡ 0 → ⊥) → (f : SFits w32 (get_or ws i no_woken).code)
+    → Puts out (woken_line (get_or ws i no_woken).task (to_z w32 (of_z w32 (get_or ws i no_woken).code)) (get_or ws i no_woken).offset.0) out'
+    → length (line_of (get_or ws i no_woken)) ≤ longest_line → Writing start ws out' (i + 1)
 unfolding Named
-writing_more {i = i} {ws = ws} v m h w n =
+writing_more {i = i} {ws = ws} v m h f w n =
     let x = get_or ws i no_woken in
+    let line = rw (to_z-of_z w32 x.code f) at w in
     record {
       within = omega arith;
-      wrote = rw (add-one i, take_more ws i h, text_snoc (take i ws) x) (wrote-append v.wrote w);
+      puts = rw (add-one i, take_more ws i h, text_snoc (take i ws) x) (puts-append v.puts line);
       named = rw (add-one i, take_more ws i h) (named_append (take i ws) (x ∷ []) v.named (h, tt));
-      short = omega (arith, v.short, w.place, n);
+      short = omega (arith, v.short, line.wrote.place, n);
     }
 
 -- where the loop is left, the places passed are the list
@@ -73,21 +88,25 @@ take-pad (suc n) (suc i) (w ∷ ws) v h u z =
 
 -- ---- the step
 
-pub stepped : {l l' out mid out' : List ℕ} {q : Queue} {r : Record} {at next end i : ℕ} (a : Answer) → result_of a l' ≡ called (call_of r) l q
-    → Wrote out at (answer_line a.code a.offset.0) mid next → Writing at mid next a.woken out' end i
-    → (i < most_tasks → (get_or a.woken i no_woken).task ≡ 0) → Stepped l q r out at l' out' (record { queue = a.queue; end = end })
+pub stepped : {l l' : List ℕ} {out mid out' : Output} {q : Queue} {r : Record} {i : ℕ} (a : Answer) → result_of a l' ≡ called (call_of r) l q
+    → Puts out (answer_line a.code a.offset.0) mid → length (answer_line a.code a.offset.0) ≤ longest_answer → Writing mid a.woken out' i
+    → (i < most_tasks → (get_or a.woken i no_woken).task ≡ 0) → Stepped l q r out l' out' a.queue
 unfolding answer_text
-stepped {l} {q = q} {r = r} {i = i} a e v w z =
+stepped {l} {q = q} {r = r} {i = i} a e v n w z =
     let same = ap (λ (x : Result). x.answer.woken) e in
     let found = perform-woken (call_of r) (stored l q) in
     let took = take-pad most_tasks i (reply_to r l q).said.woken found.0 found.1 (rw same at w.named) (rw same at z) in
-    let text = wrote-append v (rw (same, took) at w.wrote) in
+    let text = puts-append v (rw (same, took) at w.puts) in
     record {
       state = ap {B = Stored} (λ (x : Result). stored x.bytes x.answer.queue) e;
       text = rw (ap (λ (x : Result). answer_line x.answer.code x.answer.offset.0) e) at text;
-      short = omega (arith, w.short, w.within);
+      short = omega (arith, w.short, w.within, v.wrote.place, n);
     }
 
 -- a line that is written, and how far it goes
-pub line-within : {l m s : List ℕ} {at next : ℕ} → Wrote l at s m next → length s ≤ longest_line → Wrote l at s m next × (next ≤ at + longest_line)
-line-within w h = (w, omega (arith, w.place, h))
+pub line-within : {a b : Output} {s : List ℕ} → Puts a s b → length s ≤ longest_line → Puts a s b × (b.end ≤ a.end + longest_line)
+line-within p h = (p, omega (arith, p.wrote.place, h))
+
+-- a record that was read
+pub read_taken : (s : List ℕ) {x : Read} {o : Option Taken} {t : Taken} → x ≡ record_of s → x ≡ Ok o → o ≡ Some t → record_of s ≡ taken t.record t.size
+read_taken s e f g = sym e ∙ f ∙ ap {B = Read} Ok g

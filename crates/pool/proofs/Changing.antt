@@ -3,26 +3,36 @@ use Prim.Native.Nat.{ℕ, zero, suc, ◌+◌, ◌-◌, ◌%◌, ◌≤◌, ◌<�
 use mathlib.Core.Path.{◌≡◌, refl, sym, ap, ◌∙◌}
 use mathlib.Core.Bool.{Bool, true, false, not}
 use mathlib.Core.List.{List, [], ◌∷◌, ◌++◌, append-nil}
-use mathlib.Core.Option.{Option, none, some}
+use mathlib.Core.Option.{none, some}
+use mathlib.Core.Option as maybe
 use native.Mathlib.Omega.{arith}
 use lib.ListN.{length, get_or, replicate}
 use lib.Seq.{sets}
 use lib.Dec.{leb, eqb}
-use borrow.Author.Tests.{leb-true, le-leb, lt-leb, lt-ltb, le-ltb, eq-eqb, ne_eqb}
+use lib.IntN.{ℤ, pos, negsuc}
+use mir.Syntax.{w32}
+use mir.Val.{SFits, of_z, to_z}
+use mir.ValLaws.{to_z-of_z}
+use Rattle.std.specs.Prelude.{Option, Some, None, Err}
+use borrow.Author.Tests.{eqb-true, eqb-false, leb-true, le-leb, lt-leb, lt-ltb, le-ltb, eq-eqb, ne_eqb}
 use Rattle.model.specs.declared.Attributes.{Attributes}
 use Rattle.model.specs.declared.BlockOffset.{BlockOffset}
 use Rattle.model.specs.declared.Entry.{Entry}
 use Rattle.model.specs.declared.Queue.{Queue}
 use Rattle.model.specs.declared.Woken.{Woken}
-use Rattle.model.specs.Limits.{most_tasks, e_ok, e_sys, e_par, e_id, e_obj, e_rlwai, e_tmout, out_of_range, misaligned, already_free, inside_block}
+use Rattle.model.specs.Limits.{most_tasks, longest_pool, e_ok, e_sys, e_par, e_id, e_obj, e_rlwai, e_tmout, out_of_range, misaligned, already_free, inside_block}
 use Rattle.model.specs.Blocks.{Block, block, is_free, fits, starts_at, live_at, free_at, freed, greatest_free}
 use Rattle.model.specs.Bytes.{u32_at, header_at, blocks_of, render, erase, header, written, mask, overlay}
-use Rattle.model.specs.Waiting.{waits, remove, expired, remaining}
+use Rattle.model.specs.Waiting.{remove, expired, remaining}
 use Rattle.model.specs.Rules.{Rules, ok_task, queued, rules}
-use Rattle.model.specs.Calls.{place_of, no_offset, no_place, release, cancel, tick, inquire, Reply, Refusal, plain, because, Served, wake, leaves, leave, blocks, serve, in_range, tests, act}
+use Rattle.model.specs.Calls.{place_of, no_offset, no_place, Call, get, is_poll, release, cancel, tick, inquire, Reply, Refusal, plain, because, Served, wake, leaves, leave, blocks, serve, in_range, tests, act}
+use Rattle.model.specs.Errors.{refusal_of}
+use Rattle.model.specs.declared.errors.CallError.{CallError}
+use Rattle.model.specs.declared.errors.CallError.TheVariants as error
+use Rattle.model.specs.Pool as pool
 use Rattle.model.specs.Places.{no_entry, pad, used, tidy, entries_of, queue_of, woken_of}
-use Rattle.model.specs.Pool.{Stored, stored, view, settled, defaults, is_sound, create, Result, result_of, answered, created, called, inquired, totals}
-use Rattle.model.proofs.Tests.{and_l, and_r, and_f_r}
+use Rattle.model.specs.Pool.{Stored, stored, view, settled, defaults, is_sound, perform_by, create, result_of, answered, created, called, inquired, totals}
+use Rattle.model.proofs.Tests.{by, clash, and_l, and_r, and_f_r}
 use Rattle.model.proofs.Blocks.{freed-total, freed-tiled, fits-greatest, starts}
 use Rattle.model.proofs.Bytes.{Bytes, erase-length, erase-render, erase-erase, tiled_roomy, freed_finer}
 use Rattle.model.proofs.Waiting.{remove-queued, remove-count, remaining-queued, expired-count, queued-length}
@@ -30,25 +40,26 @@ use Rattle.model.proofs.Serving.{serve_stuck, stuck_remaining}
 use Rattle.model.proofs.Soundness.{leave-length}
 use Rattle.model.proofs.Places.{queued-live, used-pad, tidy-pad}
 use Rattle.model.proofs.Pool.{by_unsound, by_done}
-use Rattle.model.proofs.Refusals.{misplaced-because}
 use Rattle.model.proofs.Reasons.{released-live}
 use Rattle.model.proofs.Rules.{rules_laws}
 use Rattle.layout.specs.declared.Spot.{Spot}
+use Rattle.layout.specs.declared.Target.{Target}
 use Rattle.layout.specs.declared.Target.TheVariants as target
-use Rattle.layout.specs.declared.Found.TheVariants as found
-use Rattle.layout.specs.declared.Surveyed.{Surveyed}
+use Rattle.layout.specs.declared.Survey.{Survey}
 use Rattle.layout.specs.Layout.{sound_pool, seek, sought, put, Releasable, Released}
 use Rattle.layout.proofs.Sound.{open_pool}
 use Rattle.layout.proofs.Finding.{no_holder, Held, held}
 use Rattle.queue.specs.declared.Ticked.{Ticked}
-use Rattle.queue.specs.Entries.{ticked_of}
+use Rattle.queue.specs.Entries.{found, without, ticked_of}
 use Rattle.queue.proofs.Places.{sets_behind}
-use Rattle.queue.proofs.Entries.{head-task}
-use Rattle.pool.specs.declared.reason.Reason.{Reason}
-use Rattle.state.specs.State.{rules_in, refusal}
+use Rattle.queue.proofs.Entries.{Found, found_nothing, found_at, head-task}
+use Rattle.queue.specs.declared.Limit.{Limit}
+use Rattle.request.specs.Request.{request, entry, asked, admitted, Fair}
+use Rattle.request.proofs.Judging.{Goes, judged_go, get-admitted, get_fair}
+use Rattle.state.specs.State.{rules_in, inspected, refusal}
 use Rattle.serving.specs.Serving.{served_as, Ready}
-use Rattle.pool.specs.Steps.{misplaced_in, reason_of}
-use Rattle.state.proofs.Inspecting.{Told, called-refused, called_done, kept_bytes}
+use Rattle.pool.specs.Steps.{misplaced_in, verdict_in, time_of, Requested, Freeable, Cancellable}
+use Rattle.state.proofs.Inspecting.{State, Told, greatest-least, open_state, unsound, called_done, kept_bytes}
 use Rattle.serving.proofs.Serves.{Shown, shown}
 
 -- ---- before and after the queue is served
@@ -82,6 +93,48 @@ served_reply p x w first k v ex ew ek =
     let s : sets w k v.woken ≡ woken_of (first ++ v.woken) = rw (ew, ek) (sets_behind (record { task = 0; code = e_ok; offset = no_offset }) most_tasks first v.woken) in
     λ i. result_of (record { code = e_ok; offset = no_offset; reason = 0; place = no_place; woken = s i; queue = queue_of p.queue.attributes v.state.queue }) (render v.state.pool (ex i))
 
+-- the greatest run of a sound pool is a small number
+pub greatest-small : (l : List ℕ) (q : Queue) (g : ℕ) → is_sound rules (stored l q) ≡ true → g ≡ greatest_free (blocks_of l) → g ≤ longest_pool
+greatest-small l q g s e = let p = (open_state l q s).pool in omega (arith, e, greatest-least l p, (open_pool l p).long.most)
+
+-- ---- how a call is refused
+
+module _ (c : Call) (l : List ℕ) (q : Queue) where
+  pub denied : (e : CallError) → verdict_in c l q ≡ some (refusal_of e) → result_of (refusal (refusal_of e) q) l ≡ called c l q
+  unfolding perform_by
+  denied e h = rw h
+
+  pub verdict_unsound : (t : Target) (e : CallError) → Err e ≡ inspected t l q → verdict_in c l q ≡ some (refusal_of e)
+  verdict_unsound t e h = let u = unsound t l q e h in rw (u.state, u.is)
+
+  pub verdict_test : (k : Refusal) → is_sound rules (stored l q) ≡ true → tests (rules_in l q) (blocks (rules_in l q)) c (view (stored l q)) ≡ some k → verdict_in c l q ≡ some k
+  verdict_test k s h = rw s h
+
+-- ---- get
+
+-- a limit as the code tests it
+limit_zero : (l : ℤ) → is_poll l ≡ true → of_z w32 l ≡ 0
+limit_zero (pos n) h = ap (λ (i : ℕ). of_z w32 (pos i)) (eqb-true n 0 h)
+limit_zero (negsuc n) h = clash false h refl
+
+pub limit_polls : (l : ℤ) → SFits w32 l → eqb (of_z w32 l) 0 ≡ is_poll l
+limit_polls l s =
+    by (eqb (of_z w32 l) 0)
+    (λ h. let z : l ≡ pos 0 = sym (to_z-of_z w32 l s) ∙ ap (to_z w32) (eqb-true (of_z w32 l) 0 h) in rw z)
+    (λ h. h ∙ by (is_poll l) (λ p. absurd (eqb-false (of_z w32 l) 0 h (limit_zero l p))) (λ p. sym p))
+
+module _ (l : List ℕ) (q : Queue) (t n : ℕ) (limit : ℤ) (k : ℕ) (f : Option Spot) (w : Limit) (o : Requested l q (request t n limit k) f w) where
+  goes : Goes (asked (rules_in l q) (request t n limit k) (entries_of q)) limit w
+  goes = judged_go (asked (rules_in l q) (request t n limit k) (entries_of q)) limit w (sym o.wait)
+
+  pub requested_fair : (left : ℕ) → Fair l q (entry t n left k) f
+  requested_fair left = get_fair l q t n limit k left f o.state goes.passes o.run
+
+  pub requested_admitted : (p : Bool) (left : ℕ) → p ≡ is_poll limit → left ≡ time_of w → answered (admitted (stored l q) (entry t n left k) p) ≡ called (get (request t n limit k)) l q
+  requested_admitted p left ep el =
+      get-admitted l q t n limit k p left o.state goes.passes ep
+      (el ∙ ap time_of goes.wait ∙ by (is_poll limit) (λ h. rw h) (λ h. rw h))
+
 -- ---- release
 
 -- the attributes do not matter to an offset
@@ -90,31 +143,14 @@ plain_rules l = rules defaults (length l)
 
 -- what is known of an offset once the state is, by the block that holds it
 module _ (l : List ℕ) (o : BlockOffset) (sound : sound_pool l ≡ true) where
-  pub reason-told : (r : Reason) → r ≡ reason_of (misplaced_in o l) → (r.0 ≡ 0 → ⊥) → misplaced_in o l ≡ some (because r.0 r.1)
-  reason-told r e n = go (misplaced_in o l) refl e
-    where
-      go : (v : Option Refusal) → misplaced_in o l ≡ v → r ≡ reason_of v → misplaced_in o l ≡ some (because r.0 r.1)
-      go none m q = absurd (n (ap (λ (x : Reason). x.0) q))
-      go (some x) m q = m ∙ ap some (misplaced-because (plain_rules l) (blocks (plain_rules l)) o (blocks_of l) x m).is ∙ sym (ap (λ (x : Reason). some (because x.0 x.1)) q)
-
-  pub reason_none : (r : Reason) → r ≡ reason_of (misplaced_in o l) → r.0 ≡ 0 → misplaced_in o l ≡ none
-  reason_none r e z = go (misplaced_in o l) refl e
-    where
-      go : (v : Option Refusal) → misplaced_in o l ≡ v → r ≡ reason_of v → misplaced_in o l ≡ none
-      go none m q = m
-      go (some x) m q = absurd ((misplaced-because (plain_rules l) (blocks (plain_rules l)) o (blocks_of l) x m).some-reason (sym (ap (λ (x : Reason). x.0) q) ∙ z))
-
   -- no block holds it
-  pub reason_nowhere : seek (sought (target.Holder o)) 0 0 (blocks_of l) ≡ found.Nothing → misplaced_in o l ≡ some (because out_of_range no_place)
+  pub reason_nowhere : seek (sought (target.Holder o)) 0 0 (blocks_of l) ≡ None → misplaced_in o l ≡ some (because out_of_range no_place)
   unfolding rules
   reason_nowhere e =
       let n = no_holder o (blocks_of l) e in
       rw (and_f_r (leb 8 o.0) _ (le-ltb o.0 (length l) (omega (arith, (open_pool l sound).sums))))
 
-  pub reason-low : o.0 < 8 → misplaced_in o l ≡ some (because out_of_range no_place)
-  reason-low h = rw (lt-leb 8 o.0 h)
-
-  module _ (s : Spot) (e : seek (sought (target.Holder o)) 0 0 (blocks_of l) ≡ found.At s) (h : 8 ≤ o.0) where
+  module _ (s : Spot) (e : seek (sought (target.Holder o)) 0 0 (blocks_of l) ≡ Some s) (h : 8 ≤ o.0) where
     known : Held l o s
     known = held l o s sound e
 
@@ -136,7 +172,7 @@ module _ (l : List ℕ) (o : BlockOffset) (sound : sound_pool l ≡ true) where
       reason-inside n =
           let free = known.inside n h is_free in
           let live = known.inside n h (λ b. not (is_free b)) in
-          rw (is_in_range, even, free, live) (ap {B = Option Refusal} (λ (i : ℕ). some (because inside_block (record { 0 = i }))) (sym known.place))
+          rw (is_in_range, even, free, live) (ap {B = maybe.Option Refusal} (λ (i : ℕ). some (because inside_block (record { 0 = i }))) (sym known.place))
 
       module _ (a : o.0 ≡ s.place.0 + 8) (w : ℕ) (r : w ≡ u32_at l (s.place.0 + 4)) where
         here : o.0 - 8 ≡ s.place.0
@@ -148,7 +184,7 @@ module _ (l : List ℕ) (o : BlockOffset) (sound : sound_pool l ≡ true) where
         pub reason-free : w ≡ 0 → misplaced_in o l ≡ some (because already_free s.place)
         reason-free z =
             let free : free_at (o.0 - 8) (blocks_of l) ≡ true = starting is_free ∙ eq-eqb _ 0 (sym r ∙ z) in
-            rw (is_in_range, even, free) (ap {B = Option Refusal} (λ (i : ℕ). some (because already_free (record { 0 = i }))) here)
+            rw (is_in_range, even, free) (ap {B = maybe.Option Refusal} (λ (i : ℕ). some (because already_free (record { 0 = i }))) here)
 
         pub reason-live : (w ≡ 0 → ⊥) → misplaced_in o l ≡ none
         reason-live z =
@@ -157,7 +193,11 @@ module _ (l : List ℕ) (o : BlockOffset) (sound : sound_pool l ≡ true) where
             let live : live_at (o.0 - 8) (blocks_of l) ≡ true = starting (λ b. not (is_free b)) ∙ ap not owned in
             rw (is_in_range, even, free, live)
 
-module _ (l : List ℕ) (q : Queue) (o : BlockOffset) (seen : Surveyed) (t : Told (target.Holder o) l q seen) where
+pub release-refused : (o : BlockOffset) (l : List ℕ) (q : Queue) (x : Refusal) → is_sound rules (stored l q) ≡ true → misplaced_in o l ≡ some x → verdict_in (release o) l q ≡ some x
+unfolding tests view rules
+release-refused o l q x s e = verdict_test (release o) l q x s e
+
+module _ (l : List ℕ) (q : Queue) (o : BlockOffset) (s : Spot) (g : ℕ) (t : Freeable l q o s g) where
   abbrev bs : List Block
   bs = blocks_of l
 
@@ -170,104 +210,113 @@ module _ (l : List ℕ) (q : Queue) (o : BlockOffset) (seen : Surveyed) (t : Tol
   abbrev at : Attributes
   at = q.attributes
 
-  pub release-refused : (x : Refusal) → misplaced_in o l ≡ some x → result_of (refusal x q) l ≡ called (release o) l q
-  unfolding tests view rules
-  release-refused x e = called-refused (release o) l q x t.state e
+  parts : State l q
+  parts = open_state l q t.state
 
-  module _ (s : Spot) (none-wrong : misplaced_in o l ≡ none) (e : seen.found ≡ found.At s) where
-    sits : seek (sought (target.Holder o)) 0 0 bs ≡ found.At s
-    sits = sym t.found ∙ e
+  far : 8 ≤ o.0
+  far = leb-true 8 o.0 (and_l (leb 8 o.0) (live_at p bs) (released-live (plain_rules l) (blocks (plain_rules l)) o bs t.live))
 
-    far : 8 ≤ o.0
-    far = leb-true 8 o.0 (and_l (leb 8 o.0) (live_at p bs) (released-live (plain_rules l) (blocks (plain_rules l)) o bs none-wrong))
+  live : live_at p bs ≡ true
+  live = and_r (leb 8 o.0) (live_at p bs) (released-live (plain_rules l) (blocks (plain_rules l)) o bs t.live)
 
-    live : live_at p bs ≡ true
-    live = and_r (leb 8 o.0) (live_at p bs) (released-live (plain_rules l) (blocks (plain_rules l)) o bs none-wrong)
+  spot_place : s.place.0 ≡ p
+  spot_place =
+      (held l o s parts.pool t.found).place ∙ (starts most_tasks (λ b. not (is_free b)) p false bs (open_pool l parts.pool).tiling live).holds o.0 (omega (arith, far))
 
-    spot_place : s.place.0 ≡ p
-    spot_place =
-        (held l o s t.parts.pool sits).place ∙ (starts most_tasks (λ b. not (is_free b)) p false bs (open_pool l t.parts.pool).tiling live).holds o.0 (omega (arith, far))
+  pub releasable : Releasable l s
+  releasable =
+      let k : s.place.0 + 8 ≡ o.0 = omega (arith, spot_place, far) in
+      record { pool = parts.pool; live = rw spot_place live; found = ap (λ (i : ℕ). seek (sought (target.Holder (record { 0 = i }))) 0 0 bs) k ∙ t.found }
 
-    pub releasable : Releasable l s
-    releasable =
-        let k : s.place.0 + 8 ≡ o.0 = omega (arith, spot_place, far) in
-        record { pool = t.parts.pool; live = rw spot_place live; found = ap (λ (i : ℕ). seek (sought (target.Holder (record { 0 = i }))) 0 0 bs) k ∙ sits }
+  module _ (l₁ : List ℕ) (r : ℕ) (d : Released l s.place.0 l₁ r) where
+    abbrev news : List Block
+    news = freed p bs
 
-    module _ (l₁ : List ℕ) (r : ℕ) (d : Released l s.place.0 l₁ r) where
-      abbrev news : List Block
-      news = freed p bs
+    bytes : l₁ ≡ render news (erase bs l)
+    bytes = rw spot_place at d.bytes
 
-      bytes : l₁ ≡ render news (erase bs l)
-      bytes = rw spot_place at d.bytes
+    after : Shown (erase bs l) (render news (erase bs l)) (length l) news
+    after =
+        let u = open_pool l parts.pool in
+        shown (erase bs l) (length l) news (erase-length bs l) (freed-tiled most_tasks false p bs u.tiling) (freed-total p bs ∙ u.sums) l parts.pool refl
 
-      after : Shown (erase bs l) (render news (erase bs l)) (length l) news
-      after =
-          let u = open_pool l t.parts.pool in
-          shown (erase bs l) (length l) news (erase-length bs l) (freed-tiled most_tasks false p bs u.tiling) (freed-total p bs ∙ u.sums) l t.parts.pool refl
+    same_length : length l₁ ≡ length l
+    same_length = ap length bytes ∙ after.long
 
-      same_length : length l₁ ≡ length l
-      same_length = ap length bytes ∙ after.long
+    blocks_are : blocks_of l₁ ≡ news
+    blocks_are = ap blocks_of bytes ∙ after.blocks_are
 
-      blocks_are : blocks_of l₁ ≡ news
-      blocks_are = ap blocks_of bytes ∙ after.blocks_are
+    erased : erase (blocks_of l₁) l₁ ≡ erase bs l
+    erased =
+        ap (λ (x : List Block). erase x l₁) blocks_are ∙ ap (erase news) bytes ∙ erase-render news (erase bs l)
+        ∙ erase-erase news bs l (freed_finer p bs (tiled_roomy most_tasks false bs (open_pool l parts.pool).tiling))
 
-      erased : erase (blocks_of l₁) l₁ ≡ erase bs l
-      erased =
-          ap (λ (x : List Block). erase x l₁) blocks_are ∙ ap (erase news) bytes ∙ erase-render news (erase bs l)
-          ∙ erase-erase news bs l (freed_finer p bs (tiled_roomy most_tasks false bs (open_pool l t.parts.pool).tiling))
+    pub release_ready : (most : ℕ) → most ≡ max r (g + 8) → Ready at l₁ q.entries 0 most
+    release_ready most m =
+        record {
+          pool = rw bytes after.pool;
+          queue = rw same_length parts.queue;
+          places = parts.places;
+          room = omega (arith, short q.attributes (length l) (entries_of q) parts.queue);
+          longest = λ need h.
+              let a : leb need r ≡ false = lt-leb need r (omega (arith, h, m)) in
+              let b : fits need bs ≡ false = none_longer l parts.pool need (omega (arith, h, m, t.greatest)) in
+              rw (blocks_are) (rw spot_place at (d.runs need) ∙ rw (a, b));
+        }
 
-      pub release_ready : (most : ℕ) → most ≡ max r (seen.greatest + 8) → Ready at l₁ q.entries 0 most
-      release_ready most m =
-          record {
-            pool = rw bytes after.pool;
-            queue = rw same_length t.parts.queue;
-            places = t.parts.places;
-            room = omega (arith, short q.attributes (length l) (entries_of q) t.parts.queue);
-            longest = λ need g.
-                let a : leb need r ≡ false = lt-leb need r (omega (arith, g, m)) in
-                let b : fits need bs ≡ false = none_longer l t.parts.pool need (omega (arith, g, m, t.greatest)) in
-                rw (blocks_are) (rw spot_place at (d.runs need) ∙ rw (a, b));
-          }
+    pub release_done : (a : pool.Result) (w : List Woken) → w ≡ woken_of []
+        → a ≡ served_as at (erase (blocks_of l₁) l₁) w 0 (serve (rules at (length l₁)) (blocks (rules at (length l₁))) (blocks_of l₁) (entries_of q)) → a ≡ called (release o) l q
+    unfolding tests act view rules
+    release_done a w ew e =
+        e ∙ (λ i. served_as at (erased i) w 0 (serve (rules at (same_length i)) (blocks (rules at (same_length i))) (blocks_are i) (entries_of q)))
+        ∙ served_reply (stored l q) (erase bs l) w [] 0 (serve K (blocks K) news (entries_of q)) refl ew refl
+        ∙ called_done (release o) l q t.state t.live
 
-      pub release_done : (a : Result) (w : List Woken) → w ≡ woken_of []
-          → a ≡ served_as at (erase (blocks_of l₁) l₁) w 0 (serve (rules at (length l₁)) (blocks (rules at (length l₁))) (blocks_of l₁) (entries_of q)) → a ≡ called (release o) l q
-      unfolding tests act view rules
-      release_done a w ew e =
-          e ∙ (λ i. served_as at (erased i) w 0 (serve (rules at (same_length i)) (blocks (rules at (same_length i))) (blocks_are i) (entries_of q)))
-          ∙ served_reply (stored l q) (erase bs l) w [] 0 (serve K (blocks K) news (entries_of q)) refl ew refl
-          ∙ called_done (release o) l q t.state none-wrong
+-- ---- cancel
 
--- ---- cancel and tick
+module _ (l : List ℕ) (q : Queue) (task : ℕ) (s : is_sound rules (stored l q) ≡ true) where
+  pub cancel-unknown : ok_task (rules_in l q) task ≡ false → verdict_in (cancel task) l q ≡ some (refusal_of error.UnknownTask)
+  unfolding tests view
+  cancel-unknown h = verdict_test (cancel task) l q (plain e_id) s (rw h)
 
-module _ (l : List ℕ) (q : Queue) (seen : Surveyed) (t : Told target.Nothing l q seen) where
-  module _ (task : ℕ) where
-    pub cancel-unknown : ok_task (rules_in l q) task ≡ false → result_of (refusal (plain e_id) q) l ≡ called (cancel task) l q
-    unfolding tests view
-    cancel-unknown h = called-refused (cancel task) l q (plain e_id) t.state (rw h)
+  pub cancel-idle : ok_task (rules_in l q) task ≡ true → None ≡ found task (entries_of q) → verdict_in (cancel task) l q ≡ some (refusal_of error.NotWaiting)
+  unfolding tests view
+  cancel-idle h n = verdict_test (cancel task) l q (plain e_obj) s (rw (h, found_nothing task (entries_of q) n))
 
-    module _ (h : ok_task (rules_in l q) task ≡ true) where
-      pub cancel-idle : waits task (entries_of q) ≡ false → result_of (refusal (plain e_obj) q) l ≡ called (cancel task) l q
-      unfolding tests view
-      cancel-idle w = called-refused (cancel task) l q (plain e_obj) t.state (rw (h, w))
+module _ (l : List ℕ) (q : Queue) (task place g : ℕ) (t : Cancellable l q task place g) where
+  waits_in : State l q
+  waits_in = open_state l q t.state
 
-      module _ (w : waits task (entries_of q) ≡ true) (es : List Entry) (e : es ≡ pad no_entry most_tasks (remove task (entries_of q))) where
-        left : queued (rules_in l q) (remove task (entries_of q)) ≡ true
-        left = remove-queued (rules_in l q) task (entries_of q) t.parts.queue
+  f : Found task place (entries_of q)
+  f = found_at task (entries_of q) place t.place
 
-        pub cancel_ready : (most : ℕ) → most ≡ seen.greatest + 8 → Ready q.attributes l es 1 most
-        cancel_ready most m =
-            ready q.attributes l es (remove task (entries_of q)) 1 most t.parts.pool e left
-            (omega (arith, short q.attributes (length l) (entries_of q) t.parts.queue, remove-count task (entries_of q) w)) (omega (arith, m, t.greatest))
+  left : queued (rules_in l q) (remove task (entries_of q)) ≡ true
+  left = remove-queued (rules_in l q) task (entries_of q) waits_in.queue
 
-        pub cancel_done : (a : Result) (ws : List Woken) → ws ≡ woken_of (leaves e_rlwai task ∷ [])
-            → a ≡ served_as q.attributes (erase (blocks_of l) l) ws 1 (serve (rules_in l q) (blocks (rules_in l q)) (blocks_of l) (used es)) → a ≡ called (cancel task) l q
-        unfolding tests act view
-        cancel_done a ws ew g =
-            let u : used es ≡ remove task (entries_of q) = ap used e ∙ placed-used q.attributes (length l) (remove task (entries_of q)) left in
-            g ∙ ap (λ (x : List Entry). served_as q.attributes (erase (blocks_of l) l) ws 1 (serve (rules_in l q) (blocks (rules_in l q)) (blocks_of l) x)) u
-            ∙ served_reply (stored l q) (erase (blocks_of l) l) ws (leaves e_rlwai task ∷ []) 1 _ refl ew refl
-            ∙ called_done (cancel task) l q t.state (rw (h, w))
+  pub cancel_room : (tidy q.entries ≡ true) × (place < length (entries_of q))
+  cancel_room = (waits_in.places, f.within)
 
+  module _ (es : List Entry) (e : es ≡ pad no_entry most_tasks (without place (entries_of q))) where
+    placed : es ≡ pad no_entry most_tasks (remove task (entries_of q))
+    placed = e ∙ ap (pad no_entry most_tasks) f.removed
+
+    pub cancel_ready : Ready q.attributes l es 1 (g + 8)
+    cancel_ready =
+        ready q.attributes l es (remove task (entries_of q)) 1 (g + 8) waits_in.pool placed left
+        (omega (arith, short q.attributes (length l) (entries_of q) waits_in.queue, remove-count task (entries_of q) f.waiting)) (omega (arith, t.greatest))
+
+    pub cancel_done : (a : pool.Result) (ws : List Woken) → ws ≡ woken_of (leaves e_rlwai task ∷ [])
+        → a ≡ served_as q.attributes (erase (blocks_of l) l) ws 1 (serve (rules_in l q) (blocks (rules_in l q)) (blocks_of l) (used es)) → a ≡ called (cancel task) l q
+    unfolding tests act view
+    cancel_done a ws ew h =
+        let u : used es ≡ remove task (entries_of q) = ap used placed ∙ placed-used q.attributes (length l) (remove task (entries_of q)) left in
+        h ∙ ap (λ (x : List Entry). served_as q.attributes (erase (blocks_of l) l) ws 1 (serve (rules_in l q) (blocks (rules_in l q)) (blocks_of l) x)) u
+        ∙ served_reply (stored l q) (erase (blocks_of l) l) ws (leaves e_rlwai task ∷ []) 1 _ refl ew refl
+        ∙ called_done (cancel task) l q t.state (rw (t.task, f.waiting))
+
+-- ---- tick
+
+module _ (l : List ℕ) (q : Queue) (seen : Survey) (t : Told target.Nothing l q seen) where
   module _ (ticked : Ticked) (e : ticked ≡ ticked_of q.entries) where
     abbrev stay : List Entry
     stay = remaining (entries_of q)
@@ -286,7 +335,7 @@ module _ (l : List ℕ) (q : Queue) (seen : Surveyed) (t : Told target.Nothing l
         ready q.attributes l ticked.entries stay ticked.count most t.parts.pool places_are stays
         (omega (arith, short q.attributes (length l) (entries_of q) t.parts.queue, expired-count (entries_of q), count-is)) (omega (arith, m, t.greatest))
 
-    pub tick_done : (a : Result)
+    pub tick_done : (a : pool.Result)
         → a ≡ served_as q.attributes (erase (blocks_of l) l) ticked.woken ticked.count (serve (rules_in l q) (blocks (rules_in l q)) (blocks_of l) (used ticked.entries))
         → a ≡ called tick l q
     unfolding tests act view
@@ -314,7 +363,7 @@ module _ (l : List ℕ) (q : Queue) where
   pub inquire_unsound : is_sound rules (stored l q) ≡ false → record { code = e_sys; sum = 0; greatest = 0; head = 0 } ≡ inquired l q
   inquire_unsound h = sym (ap (λ (r : Reply Stored). totals r.said) (by_unsound (rules_in l q) inquire (stored l q) h))
 
-  pub inquire_done : (seen : Surveyed) → Told target.Nothing l q seen
+  pub inquire_done : (seen : Survey) → Told target.Nothing l q seen
       → record { code = e_ok; sum = seen.sum; greatest = seen.greatest; head = (get_or q.entries 0 no_entry).task } ≡ inquired l q
   unfolding tests act view
   inquire_done seen t =
@@ -345,5 +394,5 @@ module _ (a : Attributes) (l : List ℕ) where
   create_done q e h l' el =
       let b = block (length l) 0 in
       let bytes : l' ≡ overlay ((written (header b) ++ replicate (length l - 8) none) ++ []) l =
-      el ∙ overlay-first (header b) (length l - 8) l ∙ ap (λ (m : List (Option ℕ)). overlay m l) (sym (append-nil _)) in
+      el ∙ overlay-first (header b) (length l - 8) l ∙ ap (λ (m : List (maybe.Option ℕ)). overlay m l) (sym (append-nil _)) in
       rw (e, h) (ap (λ (x : List ℕ). result_of (refusal (plain e_ok) (queue_of a [])) x) bytes)

@@ -1,24 +1,24 @@
 -- Laws of the entries: what the tests, the place found and the place of a newcomer say. Assumes nothing.
 use Prim.Native.Nat.{ℕ, zero, suc, ◌+◌, ◌≤◌, ◌<◌}
 use mathlib.Core.Path.{◌≡◌, refl, sym, ap, ◌∙◌}
-use mathlib.Core.Bool.{Bool, true, false, not, cond, ◌&&◌, ◌||◌}
+use mathlib.Core.Bool.{Bool, true, false, not, ◌&&◌, ◌||◌}
 use mathlib.Core.List.{List, [], ◌∷◌}
 use native.Mathlib.Omega.{arith}
-use native.Mathlib.Nat.{add-zero, zero-add}
+use native.Mathlib.Numerals.{one-add}
 use lib.Dec.{leb, ltb, eqb}
 use lib.ListN.{length, drop, get_or, set, replicate}
 use lib.Seq.{get_or-set_same, get_or-set_other}
-use borrow.Author.Tests.{ltb-true, ltb-false, leb-true, eqb-true, eqb-false, le-leb, lt-leb, eq-eqb, ne_eqb}
+use borrow.Author.Tests.{ltb-true, ltb-false, lt-ltb, le-ltb, leb-true, eqb-true, eqb-false, le-leb, lt-leb}
 use Rattle.model.specs.declared.Attributes.{Attributes}
 use Rattle.model.specs.declared.Entry.{Entry}
 use Rattle.model.specs.Limits.{most_tasks}
 use Rattle.model.specs.Waiting.{waits, remove, head_task, blocked, leads, ok_left}
 use Rattle.model.specs.Rules.{ok_task, ok_entry, queued, rank_by, rules}
 use Rattle.model.specs.Places.{no_entry, used, all_unused, tidy}
-use Rattle.model.proofs.Tests.{by, clash, and_l, and_r, and_f_r, and-true, and_assoc, and_swap, or_f_l, or_f_r}
+use Rattle.model.proofs.Tests.{by, clash, and_l, and_r, and_f_r, and-true, and_assoc, and_swap}
 use Rattle.model.proofs.Waiting.{head-blocks}
-use Rattle.queue.specs.declared.Slot.{Slot}
-use Rattle.queue.specs.declared.Slot.TheVariants.{At, Nothing}
+use Rattle.std.specs.Prelude.{Some, None}
+use Rattle.std.specs.List.{position, position_or_len, prefix_len, take_while}
 use Rattle.queue.specs.Entries.{sound_queue, place, found, without}
 use Rattle.queue.proofs.Places.{used_stop, used_go, tidy_stop, tidy_go, drop_end}
 
@@ -124,31 +124,26 @@ module _ (a : Attributes) (n : ℕ) (l : List Entry) (i : ℕ) (seen : List Bool
   test_bad true h b = clash true refl h
   test_bad false h b = rw (sound_split (eqb-false x.task 0 h), b)
 
-  -- its task is marked, or its rank is below the last
-  abbrev out_of_place : Bool
-  out_of_place = get_or seen x.task false || ltb (rank_by order x) last
+  pub test_marked : (ended : Bool) → ended || eqb x.task 0 ≡ false → get_or seen x.task false ≡ true → test_from a n seen last ended (drop i l) ≡ false
+  unfolding unmarked
+  test_marked true h m = clash true refl h
+  test_marked false h m = and_f_r (sound_queue a n (drop i l)) _ (rw (used_go l i (eqb-false x.task 0 h), m))
 
-  pub test_out : (ended : Bool) → ended || eqb x.task 0 ≡ false → out_of_place ≡ true → test_from a n seen last ended (drop i l) ≡ false
-  unfolding unmarked above
-  test_out true h m = clash true refl h
-  test_out false h m =
-      let go = used_go l i (eqb-false x.task 0 h) in
+  pub test_low : (ended : Bool) → ended || eqb x.task 0 ≡ false → rank_by order x < last → test_from a n seen last ended (drop i l) ≡ false
+  unfolding above
+  test_low true h m = clash true refl h
+  test_low false h m =
       and_f_r (sound_queue a n (drop i l)) _
-      (by (get_or seen x.task false)
-      (λ s. rw (go, s))
-      (λ s. let low = ltb-true (rank_by order x) last (rw s at m) in
-      and_f_r (unmarked seen (used (drop i l))) _ (rw (go, lt-leb last (rank_by order x) low))))
+      (and_f_r (unmarked seen (used (drop i l))) _ (rw (used_go l i (eqb-false x.task 0 h), lt-leb last (rank_by order x) m)))
 
-  pub test_go : (ended : Bool) → ended || eqb x.task 0 ≡ false → ok_entry (rules a n) x ≡ true → out_of_place ≡ false → x.task < length seen
-      → test_from a n seen last ended (drop i l) ≡ test_from a n (set seen x.task true) (rank_by order x) ended r
+  pub test_go : (ended : Bool) → ended || eqb x.task 0 ≡ false → ok_entry (rules a n) x ≡ true → get_or seen x.task false ≡ false → last ≤ rank_by order x → x.task < length seen
+      → test_from a n seen last ended (drop i l) ≡ test_from a n (set seen x.task true) (rank_by order x) false r
   unfolding unmarked above
-  test_go true h ok m k = clash true refl h
-  test_go false h ok m k =
+  test_go true h ok m low k = clash true refl h
+  test_go false h ok m low k =
       let u = eqb-false x.task 0 h in
-      let s = or_f_l (get_or seen x.task false) (ltb (rank_by order x) last) m in
-      let high = ltb-false (rank_by order x) last (or_f_r (get_or seen x.task false) (ltb (rank_by order x) last) m) in
-      rw (sound_split u, used_go l i u, ok, s, le-leb last (rank_by order x) high, unmarked_set seen x.task k (used r))
-      (regroup free rises (sound_queue a n r) (unmarked seen (used r)) (above order last (used r)) (above_less order last (rank_by order x) (used r) high))
+      rw (sound_split u, used_go l i u, ok, m, le-leb last (rank_by order x) low, unmarked_set seen x.task k (used r))
+      (regroup free rises (sound_queue a n r) (unmarked seen (used r)) (above order last (used r)) (above_less order last (rank_by order x) (used r) low))
 
   pub test_end : (ended : Bool) → length l ≡ most_tasks → most_tasks ≤ i → test_from a n seen last ended (drop i l) ≡ true
   unfolding queued used tidy all_unused unmarked above
@@ -164,29 +159,29 @@ open_sound a n es h = record { queue = and_l (queued (rules a n) (used es)) (tid
 
 -- ---- who waits
 
--- the place of the task's entry, counted from i
-abbrev pub found_from : ℕ → ℕ → List Entry → Slot
-found_from i t q = cond (waits t q) (At (i + place t q)) Nothing
+-- the entries are those in front of the first unused place
+used_while : (l : List Entry) → take_while (λ e. not (eqb e.task 0)) l ≡ used l
+unfolding used
+used_while [] = refl
+used_while (e ∷ q) = by (eqb e.task 0) (λ h. rw h) (λ h. rw (h, one-add (prefix_len (λ x. not (eqb x.task 0)) q)) (ap (λ (l : List Entry). e ∷ l) (used_while q)))
 
-pub found_starts : (t : ℕ) (q : List Entry) → found t q ≡ found_from 0 t q
-found_starts t q = rw (zero-add (place t q))
+place_is : (t : ℕ) (q : List Entry) → position_or_len (λ e. eqb e.task t) q ≡ place t q
+unfolding place
+place_is t [] = refl
+place_is t (e ∷ q) = by (eqb e.task t) (λ h. rw h) (λ h. rw (h, one-add (position_or_len (λ x. eqb x.task t) q)) (ap suc (place_is t q)))
 
-module _ (l : List Entry) (i t : ℕ) where
-  pub found_stop : used (drop i l) ≡ [] → found_from i t (used (drop i l)) ≡ Nothing
-  unfolding waits
-  found_stop h = rw h
+place_within : (t : ℕ) (q : List Entry) → ltb (place t q) (length q) ≡ waits t q
+unfolding place waits
+place_within t [] = refl
+place_within t (e ∷ q) =
+    let p = place t q in
+    let n = length q in
+    let step : ltb (suc p) (suc n) ≡ ltb p n =
+    by (ltb p n) (λ h. rw h (lt-ltb (suc p) (suc n) (omega (arith, ltb-true p n h)))) (λ h. rw h (le-ltb (suc p) (suc n) (omega (arith, ltb-false p n h)))) in
+    by (eqb e.task t) (λ h. rw h (lt-ltb 0 (suc n) (omega arith))) (λ h. rw h (step ∙ place_within t q))
 
-  module _ (u : (get_or l i no_entry).task ≡ 0 → ⊥) where
-    pub found_here : (get_or l i no_entry).task ≡ t → found_from i t (used (drop i l)) ≡ At i
-    unfolding waits place
-    found_here h = rw (used_go l i u, eq-eqb (get_or l i no_entry).task t h, add-zero)
-
-    pub found_go : ((get_or l i no_entry).task ≡ t → ⊥) → found_from i t (used (drop i l)) ≡ found_from (i + 1) t (used (drop (i + 1) l))
-    unfolding waits place
-    found_go h =
-        let r = used (drop (i + 1) l) in
-        let k : i + suc (place t r) ≡ i + 1 + place t r = omega arith in
-        rw (used_go l i u, ne_eqb (get_or l i no_entry).task t h) (rw k)
+pub found_place : (t : ℕ) (l : List Entry) → position (λ e. eqb e.task t) (take_while (λ e. not (eqb e.task 0)) l) ≡ found t (used l)
+found_place t l = rw (used_while l, place_is t (used l), place_within t (used l))
 
 place-length : (t : ℕ) (q : List Entry) → waits t q ≡ true → place t q < length q
 unfolding waits place
@@ -204,17 +199,17 @@ pub record Found (t i : ℕ) (q : List Entry) : Type 0 where
   pub within : i < length q
   pub removed : without i q ≡ remove t q
 
-nowhere {ℓ} : {X : Type ℓ} (i : ℕ) → At i ≡ Nothing → X
+nowhere {ℓ} : {X : Type ℓ} (i : ℕ) → Some i ≡ None → X
 nowhere i e = absurd (let z : ◌≡◌ {A = ℕ} 0 1 = cc in omega arith)
 
 module _ (t : ℕ) (q : List Entry) where
-  pub found_nothing : Nothing ≡ found t q → waits t q ≡ false
+  pub found_nothing : None ≡ found t q → waits t q ≡ false
   found_nothing e = by (waits t q) (λ w. nowhere (place t q) (sym (rw w at e))) (λ w. w)
 
-  pub found_at : (i : ℕ) → At i ≡ found t q → Found t i q
+  pub found_at : (i : ℕ) → Some i ≡ found t q → Found t i q
   found_at i e =
       let w : waits t q ≡ true = by (waits t q) (λ w. w) (λ w. nowhere i (rw w at e)) in
-      let g : At i ≡ At (place t q) = rw w at e in
+      let g : Some i ≡ Some (place t q) = rw w at e in
       let k : i ≡ place t q = cc in
       record { waiting = w; within = rw k (place-length t q w); removed = rw k (without-place t q) }
 

@@ -1,4 +1,4 @@
--- The limits that document 01 names, a sound queue and each kind of damage to it, by computation. Assumes nothing.
+-- Time limits at their bounds, a sound queue and each kind of damage to it, by computation. Assumes nothing.
 use Prim.Native.Nat.{ℕ}
 use mathlib.Core.Path.{◌≡◌, refl}
 use mathlib.Core.Bool.{Bool, true, false}
@@ -10,10 +10,11 @@ use Rattle.model.specs.Waiting.{leads}
 use Rattle.model.specs.Rules.{queued, rules}
 use Rattle.model.specs.Places.{no_entry, pad, used, all_unused, tidy}
 use Rattle.model.specs.Pool.{defaults}
-use Rattle.queue.specs.declared.Limit.TheVariants.{Refused, Poll, Wait}
+use Rattle.std.specs.Prelude.{Some, None}
+use Rattle.queue.specs.declared.Limit.TheVariants.{Poll, Left}
 use Rattle.queue.specs.Entries.{sound_queue, limit_of}
 
-pub limits : map limit_of (minus 2 ∷ minus 1 ∷ pos 0 ∷ pos 1 ∷ pos 2147483647 ∷ []) ≡ (Refused ∷ Wait forever ∷ Poll ∷ Wait 2 ∷ Wait 2147483648 ∷ [])
+pub limits : map limit_of (minus 2 ∷ minus 1 ∷ pos 0 ∷ pos 1 ∷ pos 2147483647 ∷ []) ≡ (None ∷ Some (Left forever) ∷ Some Poll ∷ Some (Left 2) ∷ Some (Left 2147483648) ∷ [])
 limits = refl
 
 abbrev entry : ℕ → ℕ → ℕ → Entry

@@ -1,13 +1,15 @@
 -- Laws of the queue's places: what is stored in them, and each definition at one place more. Assumes nothing.
-use Prim.Native.Nat.{ℕ, zero, suc, ◌+◌, ◌≤◌, ◌<◌}
-use mathlib.Core.Path.{◌≡◌, refl, sym, ap, ◌∙◌}
+use Prim.Native.Nat.{ℕ, zero, suc, ◌+◌, ◌-◌, ◌≤◌}
+use mathlib.Core.Path.{◌≡◌, refl, ap, ◌∙◌}
 use mathlib.Core.Bool.{true, false, cond, ◌&&◌}
-use mathlib.Core.List.{List, [], ◌∷◌, ◌++◌, append_assoc}
+use mathlib.Core.List.{List, [], ◌∷◌, ◌++◌, append_assoc, append-nil}
 use native.Mathlib.Omega.{arith}
+use native.Mathlib.Nat.{zero-add}
 use native.Mathlib.Numerals.{add-one}
 use lib.Dec.{eqb}
-use lib.ListN.{length, take, drop, get_or, set, replicate, drop_of_length-le}
-use lib.Seq.{sets, take_all, take-suc-set}
+use lib.ListN.{length, take, drop, get_or, set, replicate, length-drop, drop_of_length-le}
+use borrow.Rule.Slice.PartMut.{put_mid}
+use lib.Seq.{length-take-le, sets, paste, take_all, take-paste, length-paste}
 use borrow.Author.Tests.{eq-eqb, ne_eqb}
 use Rattle.model.specs.declared.Entry.{Entry}
 use Rattle.model.specs.Limits.{most_tasks}
@@ -17,6 +19,16 @@ use Rattle.model.proofs.Places.{tidy-is}
 use Rattle.queue.specs.Entries.{without}
 
 -- ---- any list in its places
+
+module _ {A : Type 0} where
+  -- room for x at place i, the last place lost
+  room : (l : List A) (i m k : ℕ) (x : A) → i + suc m ≡ length l → length l ≤ k → set (take (suc i) l ++ take m (drop i l) ++ drop k l) i x ≡ take (length l) (take i l ++ x ∷ drop i l)
+  room [] i m k x h g = absurd (omega arith)
+  room (y ∷ l) zero m k x h g = let e : m ≡ length l = omega arith in rw (drop_of_length-le (y ∷ l) {i = k} g, e, append-nil (take (length l) (y ∷ l)))
+  room (y ∷ l) (suc i) m k x h g = rw (drop_of_length-le (y ∷ l) {i = k} g) (ap (λ (r : List A). y ∷ r) (rw (← drop_of_length-le l {i = k} (omega arith)) (room l i m k x (omega arith) (omega arith))))
+
+  pub make_room : (l : List A) (i j : ℕ) (x : A) → i ≤ j → j + 1 ≡ length l → set (paste l (i + 1) (drop i l) (j - i)) i x ≡ take (length l) (take i l ++ x ∷ drop i l)
+  make_room l i j x h n = rw add-one (room l i (j - i) (suc i + (j - i)) x (omega arith) (omega arith))
 
 module _ {A : Type 0} (d : A) where
   -- a definition that goes element by element and takes the end for d, at one place more
@@ -31,45 +43,44 @@ module _ {A : Type 0} (d : A) where
   pad-nil zero = refl
   pad-nil (suc n) = ap (λ (k : List A). d ∷ k) (pad-nil n)
 
-  get_or-pad : (n i : ℕ) (xs : List A) → length xs ≤ n → get_or (pad d n xs) i d ≡ get_or xs i d
+  -- one place fewer; the places from the k-th on; those behind a list; more of them
+  pub take-pad : (n : ℕ) (xs : List A) → take n (pad d (suc n) xs) ≡ pad d n xs
   unfolding pad
-  get_or-pad zero i [] h = refl
-  get_or-pad zero i (x ∷ xs) h = absurd (omega arith)
-  get_or-pad (suc n) zero [] h = refl
-  get_or-pad (suc n) (suc i) [] h = get_or-pad n i [] (omega arith)
-  get_or-pad (suc n) zero (x ∷ xs) h = refl
-  get_or-pad (suc n) (suc i) (x ∷ xs) h = get_or-pad n i xs (omega arith)
+  take-pad zero xs = refl
+  take-pad (suc n) [] = ap (λ (l : List A). d ∷ l) (take-pad n [])
+  take-pad (suc n) (x ∷ xs) = ap (λ (l : List A). x ∷ l) (take-pad n xs)
 
-  -- one more element, or one more empty place
-  pad-drop : (n k : ℕ) (xs ys : List A) → pad d n (xs ++ drop k ys) ≡ pad d n (xs ++ get_or ys k d ∷ drop (suc k) ys)
+  drop-pad : (k n : ℕ) (xs : List A) → drop k (pad d (k + n) xs) ≡ pad d n (drop k xs)
   unfolding pad
-  pad-drop zero k xs ys = refl
-  pad-drop (suc n) k (x ∷ xs) ys = ap (λ (l : List A). x ∷ l) (pad-drop n k xs ys)
-  pad-drop (suc n) k [] ys = split_drop (pad d (suc n)) (λ y r. y ∷ pad d n r) refl (λ y r. refl) ys k
+  drop-pad zero n xs = rw (zero-add n)
+  drop-pad (suc k) n [] = let e : suc k + n ≡ suc (k + n) = omega arith in rw e (drop-pad k n [] ∙ ap (pad d n) (drop_of_length-le {A = A} [] {i = k} (omega arith)))
+  drop-pad (suc k) n (x ∷ xs) = let e : suc k + n ≡ suc (k + n) = omega arith in rw e (drop-pad k n xs)
 
-  pad-whole : (l ys : List A) → pad d (length l) (l ++ ys) ≡ l
+  pad-behind : (n : ℕ) (xs ys : List A) → xs ++ pad d n ys ≡ pad d (length xs + n) (xs ++ ys)
   unfolding pad
-  pad-whole [] ys = refl
-  pad-whole (x ∷ l) ys = ap (λ (k : List A). x ∷ k) (pad-whole l ys)
+  pad-behind n [] ys = rw (zero-add n)
+  pad-behind n (x ∷ xs) ys = let e : suc (length xs) + n ≡ suc (length xs + n) = omega arith in rw e (ap (λ (l : List A). x ∷ l) (pad-behind n xs ys))
 
-  -- the copy of ys from place k on into l from place i on: one place more, and the end
-  pub copy_step : (n i k : ℕ) (l ys : List A) → i < length l → pad d n (take i l ++ drop k ys) ≡ pad d n (take (i + 1) (set l i (get_or ys k d)) ++ drop (k + 1) ys)
-  copy_step n i k l ys h = pad-drop n k (take i l) ys ∙ rw (add-one, add-one, take-suc-set l i (get_or ys k d) h, append_assoc)
-
-  -- the last element, in front of empty places
-  empty_places : (l : List A) → ((k : ℕ) → get_or l k d ≡ d) → l ≡ pad d (length l) []
+  pad-more : (n c : ℕ) (xs : List A) → length xs ≤ n → pad d n xs ++ replicate c d ≡ pad d (n + c) xs
   unfolding pad
-  empty_places [] h = refl
-  empty_places (x ∷ l) h = λ i. h 0 i ∷ empty_places l (λ k. h (suc k)) i
+  pad-more zero c [] h = rw (zero-add c) (pad-nil c)
+  pad-more zero c (x ∷ xs) h = absurd (omega arith)
+  pad-more (suc n) c [] h = let e : suc n + c ≡ suc (n + c) = omega arith in rw e (ap (λ (l : List A). d ∷ l) (pad-more n c [] (omega arith)))
+  pad-more (suc n) c (x ∷ xs) h = let e : suc n + c ≡ suc (n + c) = omega arith in rw e (ap (λ (l : List A). x ∷ l) (pad-more n c xs (omega arith)))
 
-  pub copy_last : (l : List A) (i : ℕ) (x : A) → i < length l → ((k : ℕ) → i < k → get_or l k d ≡ d) → pad d (length l) (take i l ++ x ∷ []) ≡ set l i x
-  unfolding pad
-  copy_last [] i x h e = absurd (omega arith)
-  copy_last (y ∷ l) zero x h e = ap (λ (k : List A). x ∷ k) (sym (empty_places l (λ k. e (suc k) (omega arith))))
-  copy_last (y ∷ l) (suc i) x h e = ap (λ (k : List A). y ∷ k) (copy_last l i x (omega arith) (λ k m. e (suc k) (omega arith)))
-
-  pub copy_end : (n i : ℕ) (l ys : List A) → length l ≡ n → n ≤ i → pad d n (take i l ++ ys) ≡ l
-  copy_end n i l ys e h = rw (← e, take_all i l (omega arith)) (pad-whole l ys)
+  -- c places left out at place p, those behind them so many further up, and d in the last
+  pub cut_places : (n p c : ℕ) (l z : List A) → length l ≡ n → p + c ≤ n → z ≡ replicate c d
+      → put_mid (n - c) (n - (n - c)) (paste l p (drop (p + c) l) (length l - (p + c))) z ≡ take p l ++ (drop (p + c) l ++ replicate c d)
+  cut_places n p c l z e h w =
+      let m : ℕ = length l - (p + c) in
+      let s : List A = drop (p + c) l in
+      let k : n - c ≡ p + m = omega arith in
+      let j : length s ≡ m = omega (arith, length-drop (p + c) l) in
+      let q : List A = paste l p s m in
+      let o : length q ≡ n = length-paste l p s m (omega arith) (omega arith) ∙ e in
+      let front : take (n - c) q ≡ take p l ++ s = rw k (take-paste l p s m (omega arith) (omega arith) ∙ rw (take_all m s (omega arith))) in
+      let back : drop (n - (n - c)) (drop (n - c) q) ≡ [] = drop_of_length-le (drop (n - c) q) {i = n - (n - c)} (omega (arith, length-drop (n - c) q)) in
+      rw (front, back, w, append-nil, append_assoc)
 
   -- elements stored one by one into empty places
   sets-nil : (i : ℕ) (xs : List A) → sets [] i xs ≡ []
@@ -100,8 +111,17 @@ unfolding used
 used-length [] = omega arith
 used-length (e ∷ r) = let ih = used-length r in by (eqb e.task 0) (λ h. rw h (omega arith)) (λ h. rw h (omega (arith, ih)))
 
-pub tidy-entry : (l : List Entry) (i : ℕ) → tidy l ≡ true → get_or l i no_entry ≡ get_or (used l) i no_entry
-tidy-entry l i h = ap (λ (k : List Entry). get_or k i no_entry) (tidy-is l h) ∙ get_or-pad no_entry (length l) i (used l) (used-length l)
+-- c places left out at place p of places that are tidy, and as many unused ones behind the last
+pub cut_entries : (p c : ℕ) (l : List Entry) → tidy l ≡ true → p + c ≤ length l
+    → take p l ++ (drop (p + c) l ++ replicate c no_entry) ≡ pad no_entry (length l) (take p l ++ drop (p + c) (used l))
+cut_entries p c l t h =
+    let m : ℕ = length l - (p + c) in
+    let ys : List Entry = drop (p + c) (used l) in
+    let n : length l ≡ p + c + m = omega arith in
+    let back : drop (p + c) l ≡ pad no_entry m ys = ap (drop (p + c)) (tidy-is l t ∙ ap (λ (k : ℕ). pad no_entry k (used l)) n) ∙ drop-pad no_entry (p + c) m (used l) in
+    let more : pad no_entry m ys ++ replicate c no_entry ≡ pad no_entry (m + c) ys = pad-more no_entry m c ys (omega (arith, length-drop (p + c) (used l), used-length l)) in
+    let k : length (take p l) + (m + c) ≡ length l = omega (arith, length-take-le p l) in
+    rw (back, more) (pad-behind no_entry (m + c) (take p l) ys ∙ rw k)
 
 used-parts : (i : ℕ) (l : List Entry) → i ≤ length (used l) → (take i l ≡ take i (used l)) × (drop i (used l) ≡ used (drop i l))
 unfolding used

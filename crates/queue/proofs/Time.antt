@@ -13,7 +13,7 @@ use lib.IntN.{ℤ, pos, negsuc, nat_abs}
 use lib.ListN.{length, drop, get_or, set}
 use lib.Seq.{sets}
 use lib.Signed.{lt_z, non_neg}
-use borrow.Author.Tests.{ltb-true, le-leb, eq-eqb, ne_eqb}
+use borrow.Author.Tests.{le-leb, eq-eqb, ne_eqb}
 use Rattle.model.specs.declared.Entry.{Entry}
 use Rattle.model.specs.declared.Woken.{Woken}
 use Rattle.model.specs.Limits.{most_tasks, longest_limit, forever, e_tmout}
@@ -21,8 +21,9 @@ use Rattle.model.specs.Waiting.{with_left, aged, expired, remaining}
 use Rattle.model.specs.Calls.{ok_limit, is_poll, left_of, leaves, leave}
 use Rattle.model.specs.Places.{no_entry, no_woken, pad, used}
 use Rattle.model.proofs.Tests.{by}
+use Rattle.std.specs.Prelude.{Option, Some, None}
 use Rattle.queue.specs.declared.Limit.{Limit}
-use Rattle.queue.specs.declared.Limit.TheVariants.{Refused, Poll, Wait}
+use Rattle.queue.specs.declared.Limit.TheVariants.{Poll, Left}
 use Rattle.queue.specs.Entries.{ticked_of, limit_of}
 use Rattle.queue.proofs.Places.{sets-pad, used_go}
 
@@ -110,30 +111,17 @@ module _ (n : ℤ) (s : SFits w32 n) where
   sign : (t : Bool) → lt_z (to_z w32 (of_z w32 n)) (pos 0) ≡ t → lt_z n (pos 0) ≡ t
   sign t e = rw (to_z-of_z w32 n s) at e
 
-pub limit-forever : (n : ℤ) → SFits w32 n → of_z w32 n ≡ 4294967295 → Wait forever ≡ limit_of n
+pub limit-forever : (n : ℤ) → SFits w32 n → of_z w32 n ≡ 4294967295 → Some (Left forever) ≡ limit_of n
 limit-forever (pos m) s e = absurd (omega (arith, s.sfits, e))
 limit-forever (negsuc zero) s e = refl
 limit-forever (negsuc (suc m)) s e = absurd (omega (arith, s.sfits, e))
 
-below : (n : ℤ) → (of_z w32 n ≡ 4294967295 → ⊥) → lt_z n (pos 0) ≡ true → Refused ≡ limit_of n
-below (pos m) u e = absurd (omega (arith, ltb-true m 0 e))
-below (negsuc zero) u e = absurd (u refl)
-below (negsuc (suc m)) u e = rw (ne_eqb (suc m) 0 (λ z. omega arith))
-
-pub limit_below : (n : ℤ) → SFits w32 n → (of_z w32 n ≡ 4294967295 → ⊥) → lt_z (to_z w32 (of_z w32 n)) (pos 0) ≡ true → Refused ≡ limit_of n
-limit_below n s u e = below n u (sign n s true e)
-
-pub limit-zero : (n : ℤ) → SFits w32 n → of_z w32 n ≡ 0 → Poll ≡ limit_of n
-limit-zero (pos zero) s e = refl
-limit-zero (pos (suc m)) s e = absurd (omega (arith, e))
-limit-zero (negsuc m) s e = absurd (omega (arith, s.sfits, e))
-
-ticks : (n : ℤ) → SFits w32 n → (of_z w32 n ≡ 0 → ⊥) → lt_z n (pos 0) ≡ false → Wait (nat_abs n + 1) ≡ limit_of n
+ticks : (n : ℤ) → SFits w32 n → (of_z w32 n ≡ 0 → ⊥) → lt_z n (pos 0) ≡ false → Some (Left (nat_abs n + 1)) ≡ limit_of n
 ticks (pos zero) s u e = absurd (u refl)
 ticks (pos (suc m)) s u e = rw (le-leb (suc m) longest_limit (omega (arith, s.sfits)), ne_eqb (suc m) 0 (λ z. omega arith))
 ticks (negsuc m) s u e = absurd (let z : ◌≡◌ {A = ℕ} 0 1 = cc in omega arith)
 
-pub limit-ticks : (n : ℤ) → SFits w32 n → (of_z w32 n ≡ 0 → ⊥) → lt_z (to_z w32 (of_z w32 n)) (pos 0) ≡ false → Wait (nat_abs (to_z w32 (of_z w32 n)) + 1) ≡ limit_of n
+pub limit-ticks : (n : ℤ) → SFits w32 n → (of_z w32 n ≡ 0 → ⊥) → lt_z (to_z w32 (of_z w32 n)) (pos 0) ≡ false → Some (Left (nat_abs (to_z w32 (of_z w32 n)) + 1)) ≡ limit_of n
 limit-ticks n s u e = rw (to_z-of_z w32 n s) (ticks n s u (sign n s false e))
 
 -- a limit that is not negative, and one more, fit an unsigned number
@@ -152,11 +140,11 @@ limit_counted n s e = rw (to_z-of_z w32 n s) (counted n s (sign n s false e))
 
 module _ (l : ℤ) where
   -- what the answer says of the limit
-  abbrev pub Asks : Limit → Type 0
-  Asks Refused = ok_limit l ≡ false
-  Asks Poll = (ok_limit l ≡ true) × (is_poll l ≡ true)
-  Asks (Wait n) = (ok_limit l ≡ true) × (is_poll l ≡ false) × (n ≡ left_of l)
+  abbrev pub Asks : Option Limit → Type 0
+  Asks None = ok_limit l ≡ false
+  Asks (Some Poll) = (ok_limit l ≡ true) × (is_poll l ≡ true)
+  Asks (Some (Left n)) = (ok_limit l ≡ true) × (is_poll l ≡ false) × (n ≡ left_of l)
 
-  pub limit_asks : (r : Limit) → r ≡ limit_of l → Asks r
+  pub limit_asks : (r : Option Limit) → r ≡ limit_of l → Asks r
   limit_asks r e =
       rw e (by (ok_limit l) (λ h. rw h (by (is_poll l) (λ g. rw g (h, g)) (λ g. rw g (h, g, refl)))) (λ h. rw h h))

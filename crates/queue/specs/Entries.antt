@@ -1,10 +1,8 @@
 -- What the functions of the queue answer, over its entries.
-use Rattle.std.specs.Prelude.{ℕ, suc, Bool, cond, ◌&&◌, List, [], ◌∷◌, ◌++◌, eqb, ℤ, length, take, drop}
-use Rattle.queue.specs.declared.Slot.{Slot}
-use Rattle.queue.specs.declared.Slot.TheVariants.{At, Nothing}
+use Rattle.std.specs.Prelude.{ℕ, suc, Bool, cond, ◌&&◌, List, [], ◌∷◌, ◌++◌, eqb, ℤ, length, take, drop, Option, Some, None}
 use Rattle.queue.specs.declared.Ticked.{Ticked}
 use Rattle.queue.specs.declared.Limit.{Limit}
-use Rattle.queue.specs.declared.Limit.TheVariants.{Refused, Poll, Wait}
+use Rattle.queue.specs.declared.Limit.TheVariants.{Poll, Left}
 use Rattle.model.specs.declared.Attributes.{Attributes}
 use Rattle.model.specs.declared.Entry.{Entry}
 use Rattle.model.specs.Limits.{most_tasks, e_tmout}
@@ -25,8 +23,8 @@ place t [] = 0
 place t (e ∷ q) = cond (eqb e.task t) 0 (suc (place t q))
 
 -- the place of the task's entry, if it waits
-abbrev pub found : ℕ → List Entry → Slot
-found t q = cond (waits t q) (At (place t q)) Nothing
+abbrev pub found : ℕ → List Entry → Option ℕ
+found t q = cond (waits t q) (Some (place t q)) None
 
 -- ---- who joins and who leaves
 
@@ -46,5 +44,5 @@ ticked_of es =
     }
 
 -- what a time limit asks for
-abbrev pub limit_of : ℤ → Limit
-limit_of l = cond (ok_limit l) (cond (is_poll l) Poll (Wait (left_of l))) Refused
+abbrev pub limit_of : ℤ → Option Limit
+limit_of l = cond (ok_limit l) (Some (cond (is_poll l) Poll (Left (left_of l)))) None

@@ -3,8 +3,11 @@
 
 use model::DEFAULTS;
 
+// One byte more than the longest log, so that a longer one is told from it.
+const INPUT_SPACE: usize = 65537;
+
 fn main() {
-    let mut input = [0u8; 65537];
+    let mut input = [0u8; INPUT_SPACE];
     let n = io::read_full(0, &mut input);
     stages::replay(&input[..n], DEFAULTS);
 }

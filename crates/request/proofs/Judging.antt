@@ -3,21 +3,23 @@ use Prim.Native.Nat.{ℕ, ◌+◌, ◌≤◌}
 use mathlib.Core.Path.{◌≡◌, refl, sym, ap, ◌∙◌}
 use mathlib.Core.Bool.{Bool, true, false, not, cond, ◌&&◌}
 use mathlib.Core.List.{List, []}
-use mathlib.Core.Option.{Option, none, some}
-use native.Mathlib.Omega.{arith}
-use mir.Syntax.{w32}
-use mir.Val.{of_z, to_z}
+use mathlib.Core.Option.{none, some}
+use mathlib.Core.Option as maybe
 use lib.ListN.{length}
 use lib.Dec.{leb}
 use lib.IntN.{ℤ}
 use borrow.Author.Tests.{leb-true}
+use Rattle.std.specs.Prelude.{Option, Some, None, Result, Ok, Err, is_some}
 use Rattle.model.specs.declared.Attributes.{Attributes}
 use Rattle.model.specs.declared.BlockOffset.{BlockOffset}
 use Rattle.model.specs.declared.Entry.{Entry}
 use Rattle.model.specs.declared.Queue.{Queue}
 use Rattle.model.specs.declared.Woken.{Woken}
 use Rattle.model.specs.declared.Answer.{Answer}
-use Rattle.model.specs.Limits.{most_tasks, lowest_priority, e_ok, e_id, e_par, e_ctx, e_tmout}
+use Rattle.model.specs.declared.errors.CallError.{CallError}
+use Rattle.model.specs.declared.errors.CallError.TheVariants.{UnknownTask, Parameter, AlreadyWaiting}
+use Rattle.model.specs.Errors.{refusal_of}
+use Rattle.model.specs.Limits.{most_tasks, lowest_priority, e_ok, e_tmout}
 use Rattle.model.specs.Blocks.{Block, fits, first_fit, granted}
 use Rattle.model.specs.Bytes.{blocks_of}
 use Rattle.model.specs.Waiting.{waits}
@@ -31,94 +33,85 @@ use Rattle.model.proofs.Soundness.{no_some, past}
 use Rattle.model.proofs.Rules.{rules_laws}
 use Rattle.layout.specs.declared.Spot.{Spot}
 use Rattle.layout.specs.declared.Target.TheVariants as target
-use Rattle.layout.specs.declared.Found.{Found}
-use Rattle.layout.specs.declared.Found.TheVariants as found
 use Rattle.layout.specs.Layout.{seek, sought, changed, Grantable}
 use Rattle.layout.proofs.Finding.{no_spot, found-run, no_run}
-use Rattle.queue.specs.declared.Slot.{Slot}
-use Rattle.queue.specs.declared.Slot.TheVariants as slot
-use Rattle.queue.specs.Entries as Q
+use Rattle.queue.specs.declared.Limit.{Limit}
+use Rattle.queue.specs.declared.Limit.TheVariants.{Poll, Left}
+use Rattle.queue.specs.Entries.{found, limit_of}
 use Rattle.queue.proofs.Entries.{head_decides}
-use Rattle.request.specs.declared.Verdict.{Verdict}
-use Rattle.request.specs.declared.Verdict.TheVariants.{Refuse, Go}
-use Rattle.state.specs.State.{rules_in, refusal}
-use Rattle.request.specs.Request.{request, entry, asked, judged, placed, unblocked, run_for, held, admitted, Fair}
-use Rattle.state.proofs.Inspecting.{State as Parts, open_state, called-refused, kept_bytes, kept_queue}
+use Rattle.state.specs.State.{rules_in}
+use Rattle.request.specs.Request.{request, entry, asked, judged, unblocked, run_for, held, admitted, Fair}
+use Rattle.state.proofs.Inspecting.{State as Parts, open_state, clash_none, clash_ok, kept_bytes, kept_queue}
 
 -- ---- the tests but for the last
 
 module _ (a : Attributes) (n t s : ℕ) (l : ℤ) (k : ℕ) (q : List Entry) where
-  abbrev verdict_of : Verdict
+  abbrev verdict_of : Result Limit CallError
   verdict_of = judged (asked (rules a n) (request t s l k) q) l
 
-  pub task-refused : ok_task (rules a n) t ≡ false → Refuse e_id ≡ verdict_of
-  task-refused h = rw h
-
   module _ (h : ok_task (rules a n) t ≡ true) where
-    pub size-refused : ok_size (most_asked a n) s && ok_priority k ≡ false → Refuse e_par ≡ verdict_of
+    pub size-refused : ok_size (most_asked a n) s && ok_priority k ≡ false → Err Parameter ≡ verdict_of
     unfolding rules
     size-refused b = rw (h, b)
 
     module _ (b : ok_size (most_asked a n) s && ok_priority k ≡ true) where
-      pub limit-refused : ok_limit l ≡ false → Refuse e_par ≡ verdict_of
-      unfolding rules
-      limit-refused d = rw (h, b, d)
+      module _ (w : Limit) (d : limit_of l ≡ Some w) where
+        pub waiter-refused : waits t q ≡ true → Err AlreadyWaiting ≡ verdict_of
+        unfolding rules
+        waiter-refused u = by (ok_limit l) (λ e. rw (h, b, e, u)) (λ e. let n : None ≡ Some w = rw e at d in clash_none n)
 
-      pub slot_judged : (x : Slot) (p : Bool) (left : ℕ) → ok_limit l ≡ true → x ≡ Q.found t q → p ≡ is_poll l → left ≡ cond (is_poll l) 0 (left_of l) → placed x p left ≡ verdict_of
-      unfolding rules
-      slot_judged x p left d e ep el =
-          by (waits t q)
-          (λ w. let f : x ≡ slot.At (Q.place t q) = e ∙ rw w in rw (f, h, b, d, w))
-          (λ w. let f : x ≡ slot.Nothing = e ∙ rw w in rw (f, h, b, d, w) (λ i. Go (ep i) (el i)))
+        pub none-refused : waits t q ≡ false → Ok w ≡ verdict_of
+        unfolding rules
+        none-refused u =
+            by (ok_limit l)
+            (λ e. let m : Some (cond (is_poll l) Poll (Left (left_of l))) ≡ Some w = rw e at d in
+            let k : w ≡ cond (is_poll l) Poll (Left (left_of l)) = cc in
+            rw (h, b, e, u) (ap (λ (x : Limit). Ok x) k))
+            (λ e. let n : None ≡ Some w = rw e at d in clash_none n)
+
+-- the task's entry is found exactly if it waits
+pub found_waits : (t : ℕ) (q : List Entry) (o : Option ℕ) (b : Bool) → o ≡ found t q → b ≡ is_some o → b ≡ waits t q
+found_waits t q o b eo eb = eb ∙ ap is_some eo ∙ by (waits t q) (λ w. rw w) (λ w. rw w)
 
 -- ---- tests of a get
 
-plain-some : (c k : ℤ) → some c ≡ some k → some (plain c) ≡ some (plain k)
-plain-some c k e = let g : c ≡ k = cc in ap (λ (x : ℤ). some (plain x)) g
+told-some : (x e : CallError) → some x ≡ some e → some (refusal_of x) ≡ some (refusal_of e)
+told-some x e h = let g : x ≡ e = cc in ap (λ (y : CallError). some (refusal_of y)) g
 
 module _ (K : Rules) (r : Request) (s : State (List Block)) where
-  pub asked-some : (k : ℤ) → asked K r s.queue ≡ some k → tests K (blocks K) (get r) s ≡ some (plain k)
+  pub asked-some : (e : CallError) → asked K r s.queue ≡ some e → tests K (blocks K) (get r) s ≡ some (refusal_of e)
   unfolding tests
-  asked-some k e =
+  asked-some x e =
       let a = ok_task K r.task in
       let b = K.allowed (entry_of r) && ok_limit r.limit in
       let w = waits r.task s.queue in
       by a
       (λ ha. by b
       (λ hb. by w
-      (λ hw. rw (ha, hb, hw) (plain-some e_ctx k (rw (ha, hb, hw) at e)))
+      (λ hw. rw (ha, hb, hw) (told-some AlreadyWaiting x (rw (ha, hb, hw) at e)))
       (λ hw. no_some (sym (rw (ha, hb, hw) at e))))
-      (λ hb. rw (ha, hb) (plain-some e_par k (rw (ha, hb) at e))))
-      (λ ha. rw ha (plain-some e_id k (rw ha at e)))
+      (λ hb. rw (ha, hb) (told-some Parameter x (rw (ha, hb) at e))))
+      (λ ha. rw ha (told-some UnknownTask x (rw ha at e)))
 
   pub asked_none : asked K r s.queue ≡ none → tests K (blocks K) (get r) s ≡ deny (is_poll r.limit && not (goes K (blocks K) (entry_of r) s)) (plain e_tmout) none
   unfolding tests
   asked_none e =
-      let p = past (not (ok_task K r.task)) e_id _ e in
-      let q = past (not (K.allowed (entry_of r) && ok_limit r.limit)) e_par _ p.1 in
-      let w = past (waits r.task s.queue) e_ctx none q.1 in
+      let p = past (not (ok_task K r.task)) UnknownTask _ e in
+      let q = past (not (K.allowed (entry_of r) && ok_limit r.limit)) Parameter _ p.1 in
+      let w = past (waits r.task s.queue) AlreadyWaiting none q.1 in
       rw (not_f (ok_task K r.task) p.0, not_f (K.allowed (entry_of r) && ok_limit r.limit) q.0, w.0)
 
--- each code fits a register
-deny_kept : (b : Bool) (c : ℤ) (rest : Option ℤ) (k : ℤ) → to_z w32 (of_z w32 c) ≡ c → (rest ≡ some k → to_z w32 (of_z w32 k) ≡ k) → deny b c rest ≡ some k → to_z w32 (of_z w32 k) ≡ k
-deny_kept true c rest k p f e = let g : c ≡ k = cc in rw g at p
-deny_kept false c rest k p f e = f e
+pub judged-refuse : (v : maybe.Option CallError) (l : ℤ) (e : CallError) → Err e ≡ judged v l → v ≡ some e
+judged-refuse (some x) l e h = let g : x ≡ e = cc in ap some g
+judged-refuse none l e h = clash_ok (sym h)
 
-code_kept : (K : Rules) (r : Request) (q : List Entry) (k : ℤ) → asked K r q ≡ some k → to_z w32 (of_z w32 k) ≡ k
-code_kept K r q k e = deny_kept (not (ok_task K r.task)) e_id _ k refl (deny_kept (not (K.allowed (entry_of r) && ok_limit r.limit)) e_par _ k refl (deny_kept (waits r.task q) e_ctx none k refl (λ z. no_some (sym z)))) e
-
-pub judged-refuse : (v : Option ℤ) (l : ℤ) (k : ℤ) → judged v l ≡ Refuse k → v ≡ some k
-judged-refuse (some c) l k e = let g : c ≡ k = cc in ap some g
-judged-refuse none l k e = absurd (let z : ◌≡◌ {A = ℕ} 0 1 = cc in omega arith)
-
-pub record Goes (v : Option ℤ) (l : ℤ) (p : Bool) (left : ℕ) : Type 0 where
+pub record Goes (v : maybe.Option CallError) (l : ℤ) (w : Limit) : Type 0 where
   pub passes : v ≡ none
-  pub poll : p ≡ is_poll l
-  pub time : left ≡ cond (is_poll l) 0 (left_of l)
+  pub wait : w ≡ cond (is_poll l) Poll (Left (left_of l))
 
-pub judged_go : (v : Option ℤ) (l : ℤ) (p : Bool) (left : ℕ) → judged v l ≡ Go p left → Goes v l p left
-judged_go (some c) l p left e = absurd (let z : ◌≡◌ {A = ℕ} 0 1 = cc in omega arith)
-judged_go none l p left e = record { passes = refl; poll = cc; time = cc }
+pub judged_go : (v : maybe.Option CallError) (l : ℤ) (w : Limit) → Ok w ≡ judged v l → Goes v l w
+judged_go (some x) l w h = clash_ok h
+judged_go none l w h = record { passes = refl; wait = cc }
 
 -- a poll never stands in the queue, so its time left does not matter
 poll-admitted : (s : Stored) (t n a b k : ℕ) → admitted s (entry t n a k) true ≡ admitted s (entry t n b k) true
@@ -138,28 +131,22 @@ module _ (l : List ℕ) (q : Queue) (t n : ℕ) (limit : ℤ) (k : ℕ) where
   abbrev r : Request
   r = request t n limit k
 
-  pub get_refused : (c : ℤ) → is_sound rules (stored l q) ≡ true → judged (asked K r (entries_of q)) limit ≡ Refuse c → result_of (refusal (plain (to_z w32 (of_z w32 c))) q) l ≡ called (get r) l q
+  pub get_refused : (e : CallError) → Err e ≡ judged (asked K r (entries_of q)) limit → tests K (blocks K) (get r) (view (stored l q)) ≡ some (refusal_of e)
   unfolding view
-  get_refused c h e =
-      let s = judged-refuse (asked K r (entries_of q)) limit c e in
-      rw (code_kept K r (entries_of q) c s) (called-refused (get r) l q (plain c) h (asked-some K r (view (stored l q)) c s))
+  get_refused e h = asked-some K r (view (stored l q)) e (judged-refuse (asked K r (entries_of q)) limit e h)
 
-  pub get-admitted : (p : Bool) (left : ℕ) → is_sound rules (stored l q) ≡ true → judged (asked K r (entries_of q)) limit ≡ Go p left
+  pub get-admitted : (p : Bool) (left : ℕ) → is_sound rules (stored l q) ≡ true → asked K r (entries_of q) ≡ none → p ≡ is_poll limit → left ≡ cond (is_poll limit) 0 (left_of limit)
       → answered (admitted (stored l q) (entry t n left k) p) ≡ called (get r) l q
   unfolding perform_by act view
-  get-admitted p left h e =
-      let g = judged_go (asked K r (entries_of q)) limit p left e in
-      let poll = g.poll in
-      rw (poll, admitted_left (stored l q) t n left k limit g.time, h, asked_none K r (view (stored l q)) g.passes)
+  get-admitted p left h passes poll time = rw (poll, admitted_left (stored l q) t n left k limit time, h, asked_none K r (view (stored l q)) passes)
 
-  pub get_fair : (p : Bool) (left : ℕ) (f : Found) → is_sound rules (stored l q) ≡ true → judged (asked K r (entries_of q)) limit ≡ Go p left
+  pub get_fair : (left : ℕ) (f : Option Spot) → is_sound rules (stored l q) ≡ true → asked K r (entries_of q) ≡ none
       → f ≡ seek (sought (target.Run (need_of q.attributes n))) 0 0 (blocks_of l) → Fair l q (entry t n left k) f
   unfolding rules
-  get_fair p left f h e run =
-      let g = (judged_go (asked K r (entries_of q)) limit p left e).passes in
-      let a = past (not (ok_task K t)) e_id _ g in
-      let b = past (not (K.allowed (entry_of r) && ok_limit limit)) e_par _ a.1 in
-      let w = past (waits t (entries_of q)) e_ctx none b.1 in
+  get_fair left f h g run =
+      let a = past (not (ok_task K t)) UnknownTask _ g in
+      let b = past (not (K.allowed (entry_of r) && ok_limit limit)) Parameter _ a.1 in
+      let w = past (waits t (entries_of q)) AlreadyWaiting none b.1 in
       record {
         state = h;
         task = not_f (ok_task K t) a.0;
@@ -170,7 +157,7 @@ module _ (l : List ℕ) (q : Queue) (t n : ℕ) (limit : ℤ) (k : ℕ) where
 
 -- ---- a request that no test refused
 
-module _ (l : List ℕ) (q : Queue) (e : Entry) (f : Found) (fair : Fair l q e f) where
+module _ (l : List ℕ) (q : Queue) (e : Entry) (f : Option Spot) (fair : Fair l q e f) where
   abbrev S : Rules
   S = rules_in l q
 
@@ -205,13 +192,13 @@ module _ (l : List ℕ) (q : Queue) (e : Entry) (f : Found) (fair : Fair l q e f
       let h = head_decides q.entries q.attributes (length l) (rank_by order e) parts.queue in
       by before_head (λ z. rw (h, z)) (λ z. rw (h, z))
 
-  none_goes : run_for order q.entries e f ≡ found.Nothing → goes S (blocks S) e (view (stored l q)) ≡ false
+  none_goes : run_for order q.entries e f ≡ None → goes S (blocks S) e (view (stored l q)) ≡ false
   none_goes n =
       goes-is ∙ by before_head
-      (λ z. let g : f ≡ found.Nothing = rw z at n in rw (z, no_run need (blocks_of l) (sym fair.run ∙ g)))
+      (λ z. let g : f ≡ None = rw z at n in rw (z, no_run need (blocks_of l) (sym fair.run ∙ g)))
       (λ z. rw z)
 
-  pub admit_held : (a : Answer) (p : Bool) → length q.entries ≡ most_tasks → Bytes l → run_for order q.entries e f ≡ found.Nothing → a ≡ held q e p → result_of a l ≡ answered (admitted (stored l q) e p)
+  pub admit_held : (a : Answer) (p : Bool) → length q.entries ≡ most_tasks → Bytes l → run_for order q.entries e f ≡ None → a ≡ held q e p → result_of a l ≡ answered (admitted (stored l q) e p)
   unfolding view rules
   admit_held a p n w o ea =
       let g = none_goes o in
@@ -219,8 +206,8 @@ module _ (l : List ℕ) (q : Queue) (e : Entry) (f : Found) (fair : Fair l q e f
       (λ h. rw (ea, h, g))
       (λ h. rw (ea, h, g) (ap (λ (y : List ℕ). result_of (held q e false) y) (sym (kept_bytes l q w parts))))
 
-  module _ (s : Spot) (o : run_for order q.entries e f ≡ found.At s) where
-    ran : (before_head ≡ true) × (f ≡ found.At s)
+  module _ (s : Spot) (o : run_for order q.entries e f ≡ Some s) where
+    ran : (before_head ≡ true) × (f ≡ Some s)
     ran = by before_head (λ z. (z, rw z at o)) (λ z. no_spot (rw z at o))
 
     fit : (fits need (blocks_of l) ≡ true) × (s.place.0 ≡ first_fit need (blocks_of l))

@@ -6,6 +6,7 @@ use mathlib.Core.List.{List, [], ◌∷◌}
 use native.Mathlib.Omega.{arith}
 use native.Mathlib.Numerals.{add-one}
 use lib.ListN.{length, set, length-set}
+use Rattle.std.specs.Prelude.{Some, None}
 use Rattle.model.specs.declared.Attributes.{Attributes}
 use Rattle.model.specs.declared.BlockOffset.{BlockOffset}
 use Rattle.model.specs.declared.Entry.{Entry}
@@ -23,7 +24,6 @@ use Rattle.model.proofs.Blocks.{granted-fits, granted-total, granted-tiled}
 use Rattle.model.proofs.Bytes.{Bytes, finer_refl, granted_finer, render-length, erase-length, render-erase, erase-render, blocks-render, render-blocks}
 use Rattle.model.proofs.Rules.{rules_laws}
 use Rattle.layout.specs.declared.Spot.{Spot}
-use Rattle.layout.specs.declared.Found.TheVariants as found
 use Rattle.layout.specs.Layout.{sound_pool, first_fit_of, changed, Grantable}
 use Rattle.layout.proofs.Sound.{open_pool, close_pool}
 use Rattle.layout.proofs.Finding.{found-run, no_run}
@@ -119,10 +119,10 @@ module _ {a : Attributes} {x : List ℕ} {n most : ℕ} {w : List Woken} {k : �
     pub loop_long : most < m → Still
     loop_long h = loop_full (s.longest m h)
 
-    pub loop_none : first_fit_of m (blocks_of l) ≡ found.Nothing → Still
+    pub loop_none : first_fit_of m (blocks_of l) ≡ None → Still
     loop_none h = loop_full (no_run m (blocks_of l) h)
 
-    module _ (p : Spot) (h : first_fit_of m (blocks_of l) ≡ found.At p) where
+    module _ (p : Spot) (h : first_fit_of m (blocks_of l) ≡ Some p) where
       pub grantable : Grantable l p.place m
       grantable = let f = found-run m (blocks_of l) p h in record { pool = s.pool; least = least; run = f.0; place_is = f.1 }
 

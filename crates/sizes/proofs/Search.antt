@@ -1,47 +1,44 @@
--- The search by halving, and the kinds in use. Assumes nothing.
-use Prim.Native.Nat.{ℕ, ◌+◌, ◌-◌, ◌≤◌, ◌<◌}
-use mathlib.Core.Path.{◌≡◌, ap, ◌∙◌}
+-- The search for a kind, and the kinds in use. Assumes nothing.
+use Prim.Native.Nat.{ℕ, zero, suc, ◌+◌, ◌-◌, ◌≤◌, ◌<◌, max, min}
+use mathlib.Core.Path.{◌≡◌, ap}
+use mathlib.Core.Bool.{true, false}
 use native.Mathlib.Omega.{arith}
-use lib.Dec.{leb}
-use borrow.Author.Tests.{leb-true, leb-false}
-use Rattle.model.specs.Sizes.{kind, last_place, kinds_below, smallest, top_place, lowest_place, kind_for}
-use Rattle.model.proofs.Tests.{by}
+use native.Mathlib.Nat.{zero-add, add-zero}
+use lib.Dec.{ltb}
+use lib.ListN.{get_or}
+use borrow.Author.Tests.{ltb-true, ltb-false, lt-ltb}
+use Rattle.std.specs.List.Sorted.{IsPartitionedBy, IsPartitionPoint}
+use Rattle.model.specs.Sizes.{kind, last_place, kinds_below, kinds_from, smallest, top_place, lowest_place, kind_for}
 use Rattle.model.proofs.Sizes.{Smallest, kind_grows, smallest-is, smallest-only}
-use Rattle.sizes.specs.Search.{skipped}
 
--- the smallest kind that is at least s lies between two places: those before `low` are below s, and that at `high` is not, unless it is the last
-pub record Range (s low high : ℕ) : Type 0 where
-  pub within : high ≤ last_place
-  pub below : (j : ℕ) → j < low → kind j < s
-  pub above : high < last_place → s ≤ kind high
+-- ---- the place found in the table but for its last kind
 
-pub whole : (s : ℕ) → Range s 0 last_place
-whole s = record { within = omega arith; below = λ j h. absurd (omega (arith, h)); above = λ h. absurd (omega (arith, h)) }
+kind_at : (i n k d : ℕ) → k < n → get_or (kinds_from i n) k d ≡ kind (i + k)
+unfolding kinds_from
+kind_at i zero k d h = absurd (omega arith)
+kind_at i (suc n) zero d h = rw (add-zero i)
+kind_at i (suc n) (suc k) d h = let e : suc i + k ≡ i + suc k = omega arith in rw e at (kind_at (suc i) n k d (omega arith))
 
--- a step leaves v places behind the one it answers
-pub skip_range : (s i w v n r : ℕ) → w ≤ v + 1 → n ≡ i + w + v → Range s i n → r ≡ skipped s i w → Range s r (r + v)
-skip_range s i w v n r m d o e =
-    by (leb s (kind (i + w - 1)))
-    (λ h. let k = leb-true s (kind (i + w - 1)) h in
-    let z : r ≡ i = e ∙ rw h in
-    rw z (record {
-      within = omega (arith, o.within, d);
-      below = o.below;
-      above = λ _. omega (arith, k, kind_grows (i + w - 1) (i + v) (omega (arith, m)));
-    }))
-    (λ h. let k = leb-false s (kind (i + w - 1)) h in
-    let z : r ≡ i + w = e ∙ rw h in
-    rw z (record {
-      within = omega (arith, o.within, d);
-      below = λ j b. omega (arith, k, kind_grows j (i + w - 1) (omega (arith, b)));
-      above = rw d at o.above;
-    }))
+table : (k d : ℕ) → k < last_place → get_or (kinds_from 0 last_place) k d ≡ kind k
+table k d h = rw (zero-add k) at (kind_at 0 last_place k d h)
 
-pub found : (s r : ℕ) → Range s r (r + 0) → r ≡ smallest s 0 last_place
-found s r o =
-    let e : r + 0 ≡ r = omega arith in
-    let k : r < last_place → s ≤ kind r = rw e at o.above in
-    smallest-only s 0 last_place r (record { from = omega arith; to = omega (arith, o.within); holds = λ h. k (omega (arith, h)); least = λ j _ b. o.below j b })
+-- the kinds below s stand before the others
+pub parted : (s : ℕ) → IsPartitionedBy (λ k. ltb k s) (kinds_from 0 last_place)
+unfolding kinds_from
+parted s i j d a b h =
+    let m : kind j < s = ltb-true (kind j) s (rw (table j d b) at h) in
+    rw (table i d (omega arith)) (lt-ltb (kind i) s (omega (arith, m, kind_grows i j a)))
+
+pub found : (s r : ℕ) → r ≤ last_place → IsPartitionPoint (λ k. ltb k s ≡ true) (λ k. ltb k s ≡ false) (kinds_from 0 last_place) r → r ≡ smallest s 0 last_place
+unfolding kinds_from
+found s r b o =
+    smallest-only s 0 last_place r
+    (record {
+      from = omega arith;
+      to = omega arith;
+      holds = λ h. ltb-false (kind r) s (rw (table r 0 h) at (o.1 r 0 (omega arith) h));
+      least = λ j _ h. ltb-true (kind j) s (rw (table j 0 (omega arith)) at (o.0 j 0 (omega arith) h));
+    })
 
 pub place-within : (s r : ℕ) → r ≡ smallest s 0 last_place → r ≤ last_place
 place-within s r e = omega (arith, e, (smallest-is s 0 last_place).to)
@@ -65,15 +62,10 @@ module _ (m s top place : ℕ) (is-top : top ≡ top_place m) (is-place : place 
       (smallest-only s low (top_place m - low) r
       (record { from = a; to = omega (arith, b, is-top); holds = λ h. holds (omega (arith, h, is-top)); least = least }))
 
-  pub above_top : top < place → kind top ≡ kind_for m s
-  above_top h =
-      in_use top (omega (arith, is-top)) (omega arith) (λ k. absurd (omega (arith, k))) (λ j _ k. found_there.least j (omega arith) (omega (arith, k, h)))
-
-  pub below_lowest : place + kinds_below < top → kind (top - kinds_below) ≡ kind_for m s
-  below_lowest h =
-      in_use (top - kinds_below) (omega (arith, is-top)) (omega arith)
-      (λ _. omega (arith, found_there.holds (omega (arith, h, top_last)), kind_grows place (top - kinds_below) (omega (arith, h))))
-      (λ j a b. absurd (omega (arith, a, b, is-top)))
-
-  pub between : place ≤ top → top ≤ place + kinds_below → kind place ≡ kind_for m s
-  between h k = in_use place (omega (arith, k, is-top)) h (λ b. found_there.holds (omega (arith, b, top_last))) (λ j _ b. found_there.least j (omega arith) b)
+  -- the place found, kept between the lowest and the top
+  pub kept : kind (max (top - kinds_below) (min place top)) ≡ kind_for m s
+  kept =
+      let r = max (top - kinds_below) (min place top) in
+      in_use r (omega (arith, is-top)) (omega arith)
+      (λ h. omega (arith, found_there.holds (omega (arith, h, top_last)), kind_grows place r (omega (arith, h))))
+      (λ j a b. found_there.least j (omega arith) (omega (arith, a, b, is-top)))

@@ -4,7 +4,6 @@
 ghost use Rattle.std.specs.Prelude.{◌≡◌, ◌+◌, ◌≤◌};
 ghost use Rattle.model.specs.Sizes as sizes;
 ghost use Rattle.model.specs.Sizes.{last_place, smallest, kind_for, ok_greatest};
-ghost use Rattle.sizes.specs.Search.{skipped};
 ghost use Rattle.model.specs.Rules.{ok_kinds, most_asked, ok_size, need_of};
 
 use model::{Attributes, WITH_KINDS, WITHOUT_KINDS};
@@ -28,26 +27,11 @@ fn kind(place: usize) -> u32
     KINDS[place]
 }
 
-// The place behind `width` kinds from `at` on, where all of these are below `size`, else `at`.
-fn skip(at: usize, width: usize, size: u32) -> usize
-    requires { (1 ≤ width) × (at + width ≤ last_place) }
-    ensures { result ≡ skipped size at width }
-{
-    if kind(at + width - 1) < size {
-        return at + width;
-    }
-    at
-}
-
-// The place of the smallest kind that is at least `size`, or the last: found by halving, in five comparisons.
+// The place of the smallest kind that is at least `size`, or the last.
 fn place_for(size: u32) -> usize
     ensures { result ≡ smallest size 0 last_place }
 {
-    let a = skip(0, 12, size);
-    let b = skip(a, 6, size);
-    let c = skip(b, 3, size);
-    let d = skip(c, 1, size);
-    skip(d, 1, size)
+    KINDS[..LAST_PLACE].partition_point(|kind| *kind < size)
 }
 
 // The smallest kind that is at least `size`, of those in use where the greatest request is `greatest`.
@@ -55,70 +39,55 @@ fn kind_for(greatest: u32, size: u32) -> u32
     ensures { result ≡ kind_for greatest size }
 {
     let top = place_for(greatest);
-    let place = place_for(size);
-    if top < place {
-        return kind(top);
-    }
-    if place + KINDS_BELOW < top {
-        return kind(top - KINDS_BELOW);
-    }
-    kind(place)
+    let lowest = top.saturating_sub(KINDS_BELOW);
+    kind(place_for(size).clamp(lowest, top))
 }
 
 // Whether a pool of `n` bytes with kinds may have this greatest request.
 fn is_greatest(greatest: u32, n: usize) -> bool
     ensures { result ≡ ok_greatest greatest n }
 {
-    if greatest < 1 {
-        return false;
-    }
-    if kind(LAST_PLACE) < greatest {
-        return false;
-    }
     let top = kind(place_for(greatest));
-    top as usize + 8 <= n
+    1 <= greatest && greatest <= kind(LAST_PLACE) && top as usize + 8 <= n
 }
 
 // Whether create takes this choice of rounding and this greatest request for a pool of `n` bytes.
 pub fn is_valid(attributes: Attributes, n: usize) -> bool
     ensures { result ≡ ok_kinds attributes n }
 {
-    if attributes.kinds == WITHOUT_KINDS {
-        return attributes.greatest == 0;
+    match attributes.kinds {
+        WITHOUT_KINDS => attributes.greatest == 0,
+        WITH_KINDS => is_greatest(attributes.greatest, n),
+        _ => false,
     }
-    if attributes.kinds != WITH_KINDS {
-        return false;
-    }
-    is_greatest(attributes.greatest, n)
 }
 
 // The greatest size that may be asked of a pool of `n` bytes.
 pub fn most_asked(attributes: Attributes, n: usize) -> usize
     ensures { result ≡ most_asked attributes n }
 {
-    if attributes.kinds != WITHOUT_KINDS {
-        return attributes.greatest as usize;
+    if attributes.kinds == WITHOUT_KINDS {
+        n.saturating_sub(8)
+    } else {
+        attributes.greatest as usize
     }
-    if n < 8 {
-        return 0;
-    }
-    n - 8
 }
 
 // Whether this size may be asked of a pool whose greatest request is `most`.
 pub fn is_size(most: usize, size: u32) -> bool
     ensures { result ≡ ok_size most size }
 {
-    (1 <= size) & (size as usize <= most)
+    1 <= size && size as usize <= most
 }
 
 // The size of the block for a size asked: rounded, with 8 bytes for the header.
 pub fn need(attributes: Attributes, size: u32) -> usize
     ensures { result ≡ need_of attributes size }
 {
-    if attributes.kinds == WITHOUT_KINDS {
-        return (size as usize + 3) / 4 * 4 + 8;
-    }
-    let kind = kind_for(attributes.greatest, size);
-    kind as usize + 8
+    let rounded = if attributes.kinds == WITHOUT_KINDS {
+        (size as usize).next_multiple_of(4)
+    } else {
+        kind_for(attributes.greatest, size) as usize
+    };
+    rounded + 8
 }

@@ -14,14 +14,15 @@ use Rattle.model.specs.Limits.{e_par}
 use Rattle.model.specs.Rules.{rules}
 use Rattle.model.specs.Pool.{Result, Stored, stored, create, result_of, created}
 use Rattle.model.proofs.Tests.{by}
-use Rattle.numbers.specs.Wrote.{Wrote}
-use Rattle.numbers.proofs.Wrote.{wrote-parts}
-use Rattle.call_log.specs.declared.Start.TheVariants as start
-use Rattle.call_log.specs.Log.{start_of}
+use Rattle.output.specs.declared.Output.{Output}
+use Rattle.output.specs.Wrote.{Wrote}
+use Rattle.output.specs.Puts.{Puts}
+use Rattle.output.proofs.Wrote.{wrote-parts}
+use Rattle.call_log.specs.Log.{start, start_of}
 use Rattle.transcript.specs.Lines.{pool_line, longest_line}
 use Rattle.transcript.specs.Transcript.{longest_log, records_text, fresh_pool, transcript_of}
 use Rattle.transcript.proofs.Theorems.{fresh_pool-code, transcript_pool}
-use Rattle.stages.specs.Stages.{text_space, Lent}
+use Rattle.stages.specs.Stages.{Empty, Lent}
 
 -- what was written at the start of a buffer
 written : {l m s : List ℕ} {next : ℕ} → Wrote l 0 s m next → length s ≤ length l → take next m ≡ s
@@ -35,12 +36,12 @@ take-zeros zero m h = refl
 take-zeros (suc n) zero h = absurd (omega (arith, h))
 take-zeros (suc n) (suc m) h = ap (λ (l : List ℕ). 0 ∷ l) (take-zeros n m (omega (arith, h)))
 
-pub lent : {log text : List ℕ} {place m : ℕ} (a : Attributes) (n : ℕ) → length log ≤ longest_log → length text ≡ text_space → start_of log ≡ start.Taken n a.order place → n ≤ m
-    → Lent log text place a (take n (replicate m 0))
-lent {log} {text} {place} {m} a n h t e k =
+pub lent : {log : List ℕ} {out : Output} {place m : ℕ} (a : Attributes) (n : ℕ) → length log ≤ longest_log → Empty out → start_of log ≡ start n a.order place → n ≤ m
+    → Lent log out place a (take n (replicate m 0))
+lent {m = m} a n h empty e k =
     let z : take n (replicate {A = ℕ} m 0) ≡ replicate n 0 = take-zeros n m k in
     let same : length (take n (replicate {A = ℕ} m 0)) ≡ n = ap length z ∙ length-replicate n 0 in
-    record { short_log = h; space = t; first = rw same e; zeros = z ∙ ap (λ (i : ℕ). replicate i 0) (sym same) }
+    record { short_log = h; empty = empty; first = rw same e; zeros = z ∙ ap (λ (i : ℕ). replicate i 0) (sym same) }
 
 -- a pool that is not refused has a valid length and valid attributes
 valid : (a : Attributes) (n : ℕ) → of_z w32 (fresh_pool a n).said.code ≡ 0 → (rules a n).valid ≡ true
@@ -54,14 +55,14 @@ keeps : (a : Attributes) (n : ℕ) → (rules a n).valid ≡ true → (fresh_poo
 unfolding create
 keeps a n v = rw (length-replicate, v)
 
-pub begun : {log text text' : List ℕ} {place next : ℕ} (a : Attributes) (l l' : List ℕ) (r : Answer) → Lent log text place a l → result_of r l' ≡ created a l → of_z w32 r.code ≡ 0
-    → length l' ≡ length l → Wrote text 0 (pool_line (length l')) text' next → length (pool_line (length l')) ≤ longest_line
-    → transcript_of r.queue.attributes log ≡ take next text' ++ records_text 0 place 0 (stored l' r.queue) (drop place log)
-begun {log} {text} {text'} {place} {next} a l l' r h e k same w m =
+pub begun : {log : List ℕ} {out out' : Output} {place : ℕ} (a : Attributes) (l l' : List ℕ) (r : Answer) → Lent log out place a l → result_of r l' ≡ created a l → of_z w32 r.code ≡ 0
+    → length l' ≡ length l → Puts out (pool_line (length l')) out' → length (pool_line (length l')) ≤ longest_line
+    → transcript_of r.queue.attributes log ≡ take out'.end out'.buffer.now ++ records_text 0 place 0 (stored l' r.queue) (drop place log)
+begun {log} {place = place} a l l' r h e k same w m =
     let n = length l in
     let made : result_of r l' ≡ created a (replicate n 0) = e ∙ ap (created a) h.zeros in
     let code : of_z w32 (fresh_pool a n).said.code ≡ 0 = sym (ap {B = ℕ} (λ (x : Result). of_z w32 x.answer.code) made) ∙ k in
     let state : stored l' r.queue ≡ (fresh_pool a n).state = ap {B = Stored} (λ (x : Result). stored x.bytes x.answer.queue) made in
     let v = valid a n code in
     let kept : r.queue.attributes ≡ a = ap (λ (x : Stored). x.queue.attributes) state ∙ keeps a n v in
-    ap (λ (x : Attributes). transcript_of x log) kept ∙ rw (written w (omega (arith, m, h.space)), same, state) (transcript_pool a log h.short_log n a.order place h.first v)
+    ap (λ (x : Attributes). transcript_of x log) kept ∙ rw (written (rw h.empty.start at w.wrote) (omega (arith, m, h.empty.space)), same, state) (transcript_pool a log h.short_log n a.order place h.first v)

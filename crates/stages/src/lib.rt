@@ -1,155 +1,118 @@
 // The text of a whole log, gathered in stages and written to standard output.
 #![tactic(auto)]
 
-ghost use Rattle.std.specs.Prelude.{◌≤◌, ◌≡◌, length, take};
+ghost use Rattle.std.specs.Prelude.{◌≤◌, ◌≡◌, length};
 ghost use Rattle.transcript.specs.Transcript.{longest_log};
-ghost use Rattle.stages.specs.Stages.{text_space, Ready, Begun, Lent, Played};
+ghost use Rattle.stages.specs.Stages.{Empty, Ready, Begun, Lent, Played};
 
-use call_log::{LONGEST_LOG, Read, Start};
+use call_log::LONGEST_LOG;
 use model::{Attributes, LONGEST_POOL, Queue};
+use output::Output;
 use player::LONGEST_STEP;
 
 // The bytes of text that are gathered before they are written.
 const TEXT_SPACE: usize = 65536;
 
-// How far a log is replayed: its place, the records taken, the end of the text gathered, whether that is the last of it, and the queue.
+// What is left of a log: its place, the records taken before it, and the queue.
 #[derive(Clone, Copy)]
-struct Stage {
+struct Rest {
     at: usize,
     count: usize,
-    end: usize,
-    over: bool,
     queue: Queue,
 }
 
-// Writes the first `end` bytes of the text. Answers whether all were taken.
-fn flush(text: &[u8], end: usize) -> bool
-    requires { end ≤ length text.now }
+// Writes the text that is gathered to standard output. Answers whether all was taken.
+fn flush(out: &Output) -> bool
+    requires { out.now.end ≤ length out.now.buffer.now }
 {
-    io::write_all(1, &text[..end])
+    io::write_all(1, &out.buffer[..out.end])
 }
 
-// Takes records while the text has room for another step. What is no record ends the log.
-fn play(log: &[u8], from: Stage, pool: &mut [u8], text: &mut [u8]) -> Stage
-    requires { Ready log.now text.old from }
-    ensures { Played log.now from pool.old text.old pool.new text.new result }
+// Takes records while the text gathered has room for another step. What is no record ends the log. Answers what is left of it, None where its last line
+// is gathered.
+fn play(log: &[u8], mut rest: Rest, pool: &mut [u8], out: &mut Output) -> Option<Rest>
+    requires { Ready log.now out.old rest }
+    ensures { Played log.now rest pool.old out.old pool.new out.new result }
 {
-    let mut queue = from.queue;
-    let mut at = from.at;
-    let mut count = from.count;
-    let mut end = from.end;
-    while end <= TEXT_SPACE - LONGEST_STEP {
-        let read = call_log::read_record(&log[at..]);
-        let Read::Taken(made, size) = read else {
-            let last = player::last(read, at, count, text, end);
-            return Stage {
-                at: at,
-                count: count,
-                end: last,
-                over: true,
-                queue: queue,
-            };
+    while out.end <= TEXT_SPACE - LONGEST_STEP {
+        let read = call_log::read_record(&log[rest.at..]);
+        let Ok(Some(taken)) = read else {
+            player::last(read, rest.at, rest.count, out);
+            return None;
         };
-        let done = player::step(pool, queue, made, text, end);
-        queue = done.queue;
-        end = done.end;
-        at += size;
-        count += 1;
+        let queue = player::step(pool, rest.queue, taken.record, out);
+        rest = Rest {
+            at: rest.at + taken.size,
+            count: rest.count + 1,
+            queue,
+        };
     }
-    Stage {
-        at: at,
-        count: count,
-        end: end,
-        over: false,
-        queue: queue,
-    }
+    Some(rest)
 }
 
 // Plays the log to its end, and writes the text that is gathered at each stage.
-fn write_text(log: &[u8], first: Stage, pool: &mut [u8], text: &mut [u8])
-    requires { Ready log.now text.old first × Begun log.now pool.old text.old first }
+fn write_text(log: &[u8], first: Rest, pool: &mut [u8], out: &mut Output)
+    requires { Ready log.now out.old first × Begun log.now pool.old out.old first }
 {
-    let mut stage = first;
-    loop {
-        stage = play(log, stage, pool, text);
-        if !flush(text, stage.end) {
-            return;
-        }
-        if stage.over {
-            return;
-        }
-        stage.end = 0;
+    let mut left = play(log, first, pool, out);
+    while flush(out)
+        && let Some(rest) = left
+    {
+        out.end = 0;
+        left = play(log, rest, pool, out);
     }
 }
 
 // The pool is created, and the records from the place `start` of the log on are made on it.
-fn run(log: &[u8], start: usize, pool: &mut [u8], attributes: Attributes, text: &mut [u8])
-    requires { Lent log.now text.old start attributes pool.old }
+fn run(log: &[u8], start: usize, pool: &mut [u8], attributes: Attributes, out: &mut Output)
+    requires { Lent log.now out.old start attributes pool.old }
 {
     let made = pool::create(pool, attributes);
     if made.code != 0 {
-        let end = transcript::refused_line(text, 0);
-        flush(text, end);
+        transcript::refused_line(out);
+        flush(out);
         return;
     }
-    let queue = made.queue;
-    let end = transcript::pool_line(text, 0, pool.len());
-    let first = Stage {
+    transcript::pool_line(out, pool.len());
+    let first = Rest {
         at: start,
         count: 0,
-        end: end,
-        over: false,
-        queue: queue,
+        queue: made.queue,
     };
-    write_text(log, first, pool, text);
-}
-
-// The first n bytes of the buffer are lent as the pool.
-fn lend(
-    log: &[u8],
-    start: usize,
-    buffer: &mut [u8],
-    n: usize,
-    attributes: Attributes,
-    text: &mut [u8],
-)
-    requires { Lent log.now text.old start attributes (take n buffer.old) × (n ≤ length buffer.old) }
-{
-    run(log, start, &mut buffer[0..n], attributes, text);
+    write_text(log, first, pool, out);
 }
 
 // A log that is not too long.
-fn begin(log: &[u8], attributes: Attributes, text: &mut [u8])
-    requires { (length log.now ≤ longest_log) × (length text.old ≡ text_space) }
+fn begin(log: &[u8], attributes: Attributes, out: &mut Output)
+    requires { (length log.now ≤ longest_log) × Empty out.old }
 {
-    let begun = call_log::read_start(log);
-    let Start::Taken(n, order, start) = begun else {
-        let end = transcript::bad_line(text, 0, 0);
-        flush(text, end);
+    let Some(start) = call_log::read_start(log) else {
+        transcript::bad_line(out, 0);
+        flush(out);
         return;
     };
-    let n = n as usize;
-    if LONGEST_POOL < n {
-        let end = transcript::refused_line(text, 0);
-        flush(text, end);
+    let length = start.length as usize;
+    if LONGEST_POOL < length {
+        transcript::refused_line(out);
+        flush(out);
         return;
     }
     let own = Attributes {
-        kinds: attributes.kinds,
-        order: order,
-        greatest: attributes.greatest,
+        order: start.order,
+        ..attributes
     };
-    let mut buffer = [0u8; 65536];
-    lend(log, start, &mut buffer, n, own, text);
+    let mut buffer = [0u8; LONGEST_POOL];
+    run(log, start.size, &mut buffer[..length], own, out);
 }
 
 // Replays a log on a pool of zeros with these attributes but for the order, which the log says, and writes its text to standard output.
 pub fn replay(log: &[u8], attributes: Attributes) {
-    let mut text = [0u8; 65536];
+    let mut text = [0u8; TEXT_SPACE];
+    let mut out = Output::new(&mut text);
     if LONGEST_LOG < log.len() {
-        let end = transcript::too_long_line(&mut text, 0);
-        flush(&text, end);
+        transcript::too_long_line(&mut out);
+        flush(&out);
         return;
     }
-    begin(log, attributes, &mut text);
+    begin(log, attributes, &mut out);
 }

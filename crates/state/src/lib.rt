@@ -3,21 +3,21 @@
 
 ghost use Rattle.std.specs.Prelude.{◌≡◌, []};
 ghost use Rattle.model.specs.Rules.{ok_attributes, rules};
-ghost use Rattle.model.specs.Calls.{plain};
+ghost use Rattle.model.specs.Calls.{no_place, plain};
+ghost use Rattle.model.specs.Errors.{refusal_of};
 ghost use Rattle.model.specs.Places.{queue_of};
 ghost use Rattle.state.specs.State.{inspected, refusal};
 
-use layout::{Surveyed, Target, walk};
-use model::{Answer, Attributes, BlockOffset, HeaderPlace, LONGEST_POOL, Queue};
+use layout::{Survey, Target, walk};
+use model::{
+    Answer, Attributes, BlockOffset, CallError, HeaderPlace, LONGEST_POOL, Queue, TASKS, Woken,
+};
 
 // Whether create takes these attributes for a pool of `n` bytes.
 fn are_valid(attributes: Attributes, n: usize) -> bool
     ensures { result ≡ ok_attributes attributes n }
 {
-    if !queue::is_order(attributes.order) {
-        return false;
-    }
-    sizes::is_valid(attributes, n)
+    queue::is_order(attributes.order) && sizes::is_valid(attributes, n)
 }
 
 // Whether create takes a pool of `n` bytes with these attributes.
@@ -25,16 +25,7 @@ fn are_valid(attributes: Attributes, n: usize) -> bool
 pub fn is_valid(attributes: Attributes, n: usize) -> bool
     ensures { result ≡ (rules attributes n).valid }
 {
-    if n % 4 != 0 {
-        return false;
-    }
-    if n < 12 {
-        return false;
-    }
-    if LONGEST_POOL < n {
-        return false;
-    }
-    are_valid(attributes, n)
+    n % 4 == 0 && (12..=LONGEST_POOL).contains(&n) && are_valid(attributes, n)
 }
 
 // A queue without entries.
@@ -42,22 +33,36 @@ pub fn empty(attributes: Attributes) -> Queue
     ensures { result ≡ queue_of attributes [] }
 {
     Queue {
-        attributes: attributes,
+        attributes,
         entries: queue::empty(),
     }
 }
 
-// A code with a reason and a place, nobody woken, nothing changed.
+// An answer that gives no reason.
+pub fn answer(code: i32, offset: BlockOffset, woken: [Woken; TASKS], queue: Queue) -> Answer
+    ensures { result ≡ record { code = code; offset = offset; reason = 0; place = no_place; woken = woken; queue = queue } }
+{
+    Answer {
+        code,
+        offset,
+        reason: 0,
+        place: HeaderPlace(0),
+        woken,
+        queue,
+    }
+}
+
+// A code with a reason and a place, nobody woken, nothing changed. Any code, also the 0 of a create.
 pub fn refuse_for(code: i32, reason: u32, place: HeaderPlace, queue: Queue) -> Answer
     ensures { result ≡ refusal (record { code = code; reason = reason; place = place }) queue }
 {
     Answer {
-        code: code,
+        code,
         offset: BlockOffset(0),
-        reason: reason,
-        place: place,
+        reason,
+        place,
         woken: queue::nobody(),
-        queue: queue,
+        queue,
     }
 }
 
@@ -68,29 +73,33 @@ pub fn refuse(code: i32, queue: Queue) -> Answer
     refuse_for(code, 0, HeaderPlace(0), queue)
 }
 
+// The refusal of a call.
+pub fn deny(error: CallError, queue: Queue) -> Answer
+    ensures { result ≡ refusal (refusal_of error) queue }
+{
+    refuse_for(error.code(), error.reason(), error.place(), queue)
+}
+
 // Tests the state and surveys the pool, in one pass over its headers; the head, if any, must fit no free run.
-pub fn inspect(pool: &[u8], queue: Queue, target: Target) -> Surveyed
+pub fn inspect(pool: &[u8], queue: Queue, target: Target) -> Result<Survey, CallError>
     ensures { result ≡ inspected target pool.now queue }
 {
-    let seen = walk::survey(pool, target);
-    if !seen.sound {
-        return seen;
-    }
+    let seen = walk::survey(pool, target).ok_or(CallError::Unsound)?;
     let n = pool.len();
     let attributes = queue.attributes;
     if !are_valid(attributes, n) {
-        return walk::unsound();
+        return Err(CallError::Unsound);
     }
     let entries = queue.entries;
     if !queue::is_sound(attributes, entries, n) {
-        return walk::unsound();
+        return Err(CallError::Unsound);
     }
     let head = entries[0];
     if head.task == 0 {
-        return seen;
+        return Ok(seen);
     }
     if sizes::need(attributes, head.size) <= seen.greatest + 8 {
-        return walk::unsound();
+        return Err(CallError::Unsound);
     }
-    seen
+    Ok(seen)
 }

@@ -1,7 +1,8 @@
 -- Quoted text, decimal numbers, lines, words and numbers, by computation. Assumes nothing.
 use mathlib.Core.Path.{◌≡◌, refl}
 use mathlib.Core.List.{[], ◌∷◌, map}
-use Rattle.text.specs.declared.words.Numeral.TheVariants.{Value, TooLarge, Other}
+use Rattle.std.specs.Prelude.{Ok, Err}
+use Rattle.text.specs.declared.words.NumeralError.TheVariants.{TooLarge, NotDigits}
 use Rattle.text.specs.Ascii.{ascii}
 use Rattle.text.specs.Decimal.{digits, decimal, value_from, all_digits}
 use Rattle.text.specs.Words.{span, pieces, nonempty, lines_of, words_of, numeral_of}
@@ -26,6 +27,6 @@ words : words_of (ascii "  get\t1  10 # ten\r") ≡ ascii "get" ∷ ascii "1" �
 unfolding span pieces nonempty
 words = refl
 
-numbers : map (λ w. numeral_of 4294967295 (ascii w)) ("007" ∷ "4294967295" ∷ "4294967296" ∷ "8x" ∷ []) ≡ Value 7 ∷ Value 4294967295 ∷ TooLarge ∷ Other ∷ []
+numbers : map (λ w. numeral_of 4294967295 (ascii w)) ("007" ∷ "4294967295" ∷ "4294967296" ∷ "8x" ∷ []) ≡ Ok 7 ∷ Ok 4294967295 ∷ Err TooLarge ∷ Err NotDigits ∷ []
 unfolding value_from all_digits numeral_of
 numbers = refl

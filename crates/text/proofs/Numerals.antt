@@ -1,20 +1,21 @@
 -- The loop of `read_numeral`: the number that the digits passed say, in front of those that are left. Assumes nothing.
 use Prim.Native.Nat.{ℕ, zero, suc, ◌+◌, ◌-◌, ◌*◌, ◌<◌, ◌≤◌}
 use mathlib.Core.Path.{◌≡◌, refl, ◌∙◌}
-use mathlib.Core.Bool.{true, ◌&&◌}
+use mathlib.Core.Bool.{true, false, ◌&&◌}
 use mathlib.Core.List.{List, [], ◌∷◌}
 use native.Mathlib.Omega.{arith}
 use native.Mathlib.Numerals.{add-one}
+use Rattle.std.specs.Prelude.{Ok, Err}
+use Rattle.std.specs.List.{list_all}
 use lib.Dec.{leb}
 use lib.ListN.{length, drop, get_or, drop_of_length-le}
 use lib.Seq.{drop-cons}
 use borrow.Author.Tests.{leb-true, le-leb, lt-leb}
 use Rattle.model.proofs.Tests.{and_l, and_r}
 use Rattle.text.specs.declared.words.Class.TheVariants.{Digit}
-use Rattle.text.specs.declared.words.Numeral.TheVariants.{Value, TooLarge, Other}
+use Rattle.text.specs.declared.words.NumeralError.TheVariants.{TooLarge, NotDigits}
 use Rattle.text.specs.Decimal.{value_from, value_of, all_digits}
-use Rattle.text.specs.Words.{span, numeral_of}
-use Rattle.text.proofs.Spans.{digits-span, digits_stop}
+use Rattle.text.specs.Words.{belongs, numeral_of}
 
 -- further digits make no number smaller
 value_least : (v : ℕ) (s : List ℕ) → v ≤ value_from v s
@@ -40,13 +41,18 @@ pub record Counting (w : List ℕ) (most v i : ℕ) : Type 0 where
   pub digits : all_digits w ≡ true
   pub small : v ≤ most
 
-module _ (w : List ℕ) (most digits : ℕ) (e : digits ≡ 0 + length (span Digit w)) where
-  pub numeral_other : digits < length w → Other ≡ numeral_of most w
-  unfolding numeral_of
-  numeral_other h = rw (digits_stop w (omega arith))
+-- what `all` answers of the bytes of a word
+pub list_digits : (w : List ℕ) → list_all (belongs Digit) w ≡ all_digits w
+unfolding all_digits
+list_digits [] = refl
+list_digits (d ∷ w) = rw (list_digits w)
 
-  pub counting_start : length w ≤ digits → Counting w most 0 0
-  counting_start h = record { same = refl; digits = digits-span w (omega arith); small = omega arith }
+pub numeral_other : (w : List ℕ) (most : ℕ) → all_digits w ≡ false → Err NotDigits ≡ numeral_of most w
+unfolding numeral_of
+numeral_other w most e = rw e
+
+pub counting_start : (w : List ℕ) (most : ℕ) → all_digits w ≡ true → Counting w most 0 0
+counting_start w most e = record { same = refl; digits = e; small = omega arith }
 
 module _ {w : List ℕ} {most v i : ℕ} (g : Counting w most v i) where
   module _ (h : i < length w) where
@@ -60,13 +66,13 @@ module _ {w : List ℕ} {most v i : ℕ} (g : Counting w most v i) where
     pub counting_more : 10 * v + (get_or w i 0 - 48) ≤ most → Counting w most (10 * v + (get_or w i 0 - 48)) (i + 1)
     counting_more k = record { same = next; digits = g.digits; small = k }
 
-    pub counting_large : most < 10 * v + (get_or w i 0 - 48) → TooLarge ≡ numeral_of most w
+    pub counting_large : most < 10 * v + (get_or w i 0 - 48) → Err TooLarge ≡ numeral_of most w
     unfolding numeral_of
     counting_large k =
         let over : most < value_of w = omega (arith, next, value_least (10 * v + (get_or w i 0 - 48)) (drop (i + 1) w)) in
         rw (g.digits, lt-leb (value_of w) most over)
 
-  pub counting_end : length w ≤ i → Value v ≡ numeral_of most w
+  pub counting_end : length w ≤ i → Ok v ≡ numeral_of most w
   unfolding numeral_of value_from
   counting_end h =
       let all : value_of w ≡ v = g.same ∙ rw (drop_of_length-le w h) in

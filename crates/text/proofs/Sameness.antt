@@ -1,12 +1,13 @@
 -- Laws of the test whether two words are the same. Assumes nothing.
 use Prim.Native.Nat.{ℕ}
-use mathlib.Core.Path.{◌≡◌, refl, sym, ◌∙◌}
-use mathlib.Core.Bool.{Bool, true}
+use mathlib.Core.Path.{◌≡◌, refl}
+use mathlib.Core.Bool.{true}
 use mathlib.Core.List.{List, [], ◌∷◌}
 use native.Mathlib.Omega.{arith}
 use lib.Dec.{eqb}
+use lib.Pointwise.{pointwise}
 use borrow.Author.Tests.{eqb-true, eq-eqb}
-use Rattle.model.proofs.Tests.{by, clash, and_l, and_r, and_i}
+use Rattle.model.proofs.Tests.{and_l, and_r, and_i}
 use Rattle.text.specs.Words.{same}
 
 pub same_self : (w : List ℕ) → same w w ≡ true
@@ -21,8 +22,10 @@ same_true [] (b ∷ w) e = let z : ◌≡◌ {A = ℕ} 0 1 = cc in absurd (omega
 same_true (a ∷ v) [] e = let z : ◌≡◌ {A = ℕ} 0 1 = cc in absurd (omega arith)
 same_true (a ∷ v) (b ∷ w) e = rw (eqb-true a b (and_l (eqb a b) (same v w) e), same_true v w (and_r (eqb a b) (same v w) e))
 
--- a test that is true exactly where the words are equal
-pub same_test : (r : Bool) (v w : List ℕ) → (r ≡ true → v ≡ w) × (v ≡ w → r ≡ true) → r ≡ same v w
-same_test r v w h =
-    by (same v w) (λ s. h.1 (same_true v w s) ∙ sym s)
-    (λ s. by r (λ t. clash (same v w) (rw (h.0 t) (same_self w)) s) (λ t. t ∙ sym s))
+-- what `==` answers at two slices of bytes
+pub same_pointwise : (v w : List ℕ) → pointwise eqb v w ≡ same v w
+unfolding same
+same_pointwise [] [] = refl
+same_pointwise [] (b ∷ w) = refl
+same_pointwise (a ∷ v) [] = refl
+same_pointwise (a ∷ v) (b ∷ w) = rw (same_pointwise v w)

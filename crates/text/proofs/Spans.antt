@@ -1,14 +1,13 @@
 -- Laws of spans: the longest starts of a text whose bytes are of a class. Assumes nothing.
-use Prim.Native.Nat.{ℕ, suc, ◌+◌, ◌<◌, ◌≤◌}
+use Prim.Native.Nat.{ℕ, ◌+◌, ◌≤◌}
 use mathlib.Core.Path.{◌≡◌, refl}
-use mathlib.Core.Bool.{Bool, true, false, ◌&&◌}
+use mathlib.Core.Bool.{Bool, true, ◌&&◌}
 use mathlib.Core.List.{List, [], ◌∷◌, ◌++◌}
 use native.Mathlib.Omega.{arith}
-use native.Mathlib.Numerals.{add-one}
 use lib.Dec.{leb}
-use lib.ListN.{length, take, drop, get_or, drop_of_length-le}
-use lib.Seq.{drop-cons}
+use lib.ListN.{length, take, drop, drop_of_length-le}
 use borrow.Author.Tests.{leb-true, le-leb, ne_eqb}
+use Rattle.std.specs.List.{prefix_len}
 use Rattle.model.proofs.Tests.{by, and_l, and_r, and_i}
 use Rattle.text.specs.declared.words.Class.{Class}
 use Rattle.text.specs.declared.words.Class.TheVariants.{Line, Plain, Blank, Word, Digit}
@@ -21,22 +20,16 @@ pub span_in : (c : Class) (b : ℕ) (s : List ℕ) → belongs c b ≡ true → 
 unfolding span
 span_in c b s h = rw h
 
-pub span_out : (c : Class) (b : ℕ) (s : List ℕ) → belongs c b ≡ false → span c (b ∷ s) ≡ []
+-- the count of the elements from the front on that are of the class
+pub prefix_len-span : (c : Class) (s : List ℕ) → prefix_len (belongs c) s ≡ length (span c s)
 unfolding span
-span_out c b s h = rw h
+prefix_len-span c [] = refl
+prefix_len-span c (b ∷ s) = by (belongs c b) (λ h. rw h (omega (arith, prefix_len-span c s))) (λ h. rw h)
 
--- ---- a span from the place i of a text on
-
-module _ (c : Class) (s : List ℕ) (i : ℕ) where
-  pub span_more : i < length s → belongs c (get_or s i 0) ≡ true → i + length (span c (drop i s)) ≡ i + 1 + length (span c (drop (i + 1) s))
-  span_more h e = rw (drop-cons s i 0 h, span_in c (get_or s i 0) (drop (suc i) s) e, ← add-one i) (omega arith)
-
-  pub span_stop : i < length s → belongs c (get_or s i 0) ≡ false → i + length (span c (drop i s)) ≡ i
-  span_stop h e = rw (drop-cons s i 0 h, span_out c (get_or s i 0) (drop (suc i) s) e) (omega arith)
-
-  pub span_past : length s ≤ i → i + length (span c (drop i s)) ≡ i
-  unfolding span
-  span_past h = rw (drop_of_length-le s h) (omega arith)
+-- past the end there is none
+pub span_past : (c : Class) (s : List ℕ) (i : ℕ) → length s ≤ i → i ≡ i + length (span c (drop i s))
+unfolding span
+span_past c s i h = rw (drop_of_length-le s h) (omega arith)
 
 -- ---- a span and what stands behind it
 
@@ -82,14 +75,3 @@ every_digit c (d ∷ s) n e =
     and_i (belongs c d) (every c s)
     (digit_word c d (leb-true 48 d (and_l (leb 48 d) (leb d 57) t)) (leb-true d 57 (and_r (leb 48 d) (leb d 57) t)) n)
     (every_digit c s n (and_r (leb 48 d && leb d 57) (all_digits s) e))
-
--- digits
-pub digits-span : (s : List ℕ) → length s ≤ length (span Digit s) → all_digits s ≡ true
-unfolding span all_digits
-digits-span [] h = refl
-digits-span (b ∷ s) h = by (belongs Digit b) (λ e. rw e (digits-span s (omega (arith, rw e at h)))) (λ e. absurd (omega (arith, rw e at h)))
-
-pub digits_stop : (s : List ℕ) → length (span Digit s) < length s → all_digits s ≡ false
-unfolding span all_digits
-digits_stop [] h = absurd (omega arith)
-digits_stop (b ∷ s) h = by (belongs Digit b) (λ e. rw e (digits_stop s (omega (arith, rw e at h)))) (λ e. rw e)

@@ -1,10 +1,10 @@
 -- Lines, words and numbers of a text, as lists of ASCII codes.
-use Rattle.std.specs.Prelude.{ℕ, List, [], ◌∷◌, Bool, true, false, not, cond, ◌&&◌, ◌||◌, leb, eqb}
+use Rattle.std.specs.Prelude.{ℕ, List, [], ◌∷◌, Bool, true, false, not, cond, ◌&&◌, ◌||◌, leb, eqb, Result, Ok, Err}
 use Prim.Native.Char.{code}
 use Rattle.text.specs.declared.words.Class.{Class}
 use Rattle.text.specs.declared.words.Class.TheVariants.{Line, Plain, Blank, Word, Digit}
-use Rattle.text.specs.declared.words.Numeral.{Numeral}
-use Rattle.text.specs.declared.words.Numeral.TheVariants.{Value, TooLarge, Other}
+use Rattle.text.specs.declared.words.NumeralError.{NumeralError}
+use Rattle.text.specs.declared.words.NumeralError.TheVariants.{TooLarge, NotDigits}
 use Rattle.text.specs.Decimal.{value_of, all_digits}
 
 -- ---- classes of bytes
@@ -63,5 +63,5 @@ same (a ∷ v) [] = false
 same (a ∷ v) (b ∷ w) = eqb a b && same v w
 
 -- the number that a word says, if it has only digits; above `most` it is too large
-unfoldable pub numeral_of : ℕ → List ℕ → Numeral
-numeral_of most w = cond (all_digits w) (cond (leb (value_of w) most) (Value (value_of w)) TooLarge) Other
+unfoldable pub numeral_of : ℕ → List ℕ → Result ℕ NumeralError
+numeral_of most w = cond (all_digits w) (cond (leb (value_of w) most) (Ok (value_of w)) (Err TooLarge)) (Err NotDigits)

@@ -1,10 +1,11 @@
-// Lines, words and numbers of a text.
+// Lines, words and numbers of a text. Places are counted in the whole text, as the clauses do that speak of the words from a place on.
 ghost use Rattle.std.specs.Prelude.{◌≡◌, ◌+◌, length, drop};
+ghost use Rattle.text.specs.Decimal.{all_digits};
 ghost use Rattle.text.specs.Words.{is_blank, belongs, span, same, numeral_of};
 ghost use Rattle.text.specs.Steps.{NextWord};
 
-// Classes of bytes.
-#[derive(Clone, Copy)]
+// Classes of bytes: values and no closures, since lines, words and numbers are defined by them (`span`, `pieces`).
+#[derive(Clone, Copy, Debug, PartialEq, Eq)]
 pub enum Class {
     // any byte but a newline
     Line,
@@ -18,91 +19,100 @@ pub enum Class {
     Digit,
 }
 
-// Where a word stands.
-#[derive(Clone, Copy)]
-pub enum Place {
-    // its start, and the place after it
-    At(usize, usize),
-    Nowhere,
+impl Class {
+    // Whether a byte is of the class.
+    pub fn contains(self, byte: u8) -> bool
+        ensures { result ≡ belongs self byte }
+    {
+        match self {
+            Class::Line => byte != b'\n',
+            Class::Plain => byte != b'#',
+            Class::Blank => is_blank(byte),
+            Class::Word => !is_blank(byte),
+            Class::Digit => byte.is_ascii_digit(),
+        }
+    }
 }
 
-// What a word says as a number.
-#[derive(Clone, Copy)]
-pub enum Numeral {
-    Value(u32),
+fn is_blank(byte: u8) -> bool
+    ensures { result ≡ is_blank byte }
+{
+    matches!(byte, b' ' | b'\t' | b'\r')
+}
+
+// Where a word stands: its start, and the place after it.
+#[derive(Clone, Copy, Debug, PartialEq, Eq)]
+pub struct Word {
+    pub start: usize,
+    pub end: usize,
+}
+
+// Why a word says no number.
+#[derive(Clone, Copy, Debug, PartialEq, Eq)]
+pub enum NumeralError {
+    // the number is above the most that is allowed
     TooLarge,
     // it has a byte that is no digit
-    Other,
-}
-
-fn is_blank(b: u8) -> bool
-    ensures { result ≡ is_blank b }
-{
-    (b == b' ') | ((b == b'\t') | (b == b'\r'))
-}
-
-fn is_in(class: Class, b: u8) -> bool
-    ensures { result ≡ belongs class b }
-{
-    match class {
-        Class::Line => b != b'\n',
-        Class::Plain => b != b'#',
-        Class::Blank => is_blank(b),
-        Class::Word => !is_blank(b),
-        Class::Digit => (b'0' <= b) & (b <= b'9'),
-    }
+    NotDigits,
 }
 
 // The place of the first byte from `at` on that is not of the class; where there is none, the end of s.
 pub fn span_end(s: &[u8], at: usize, class: Class) -> usize
     ensures { result ≡ at + length (span class (drop at s.now)) }
 {
-    let mut i = at;
-    while i < s.len() {
-        if !is_in(class, s[i]) {
-            return i;
-        }
-        i += 1;
+    match s.get(at..) {
+        Some(rest) => at + span_length(rest, class),
+        None => at,
     }
-    i
+}
+
+// How many bytes at the start of s are of the class.
+fn span_length(s: &[u8], class: Class) -> usize
+    ensures { result ≡ length (span class s.now) }
+{
+    s.iter().take_while(|byte| class.contains(**byte)).count()
 }
 
 // The first word from the place `at` of s on.
-pub fn next_word(s: &[u8], at: usize) -> Place
+pub fn next_word(s: &[u8], at: usize) -> Option<Word>
     ensures { NextWord s.now at result }
 {
     let start = span_end(s, at, Class::Blank);
     if s.len() <= start {
-        return Place::Nowhere;
+        return None;
     }
     let end = span_end(s, start, Class::Word);
-    Place::At(start, end)
+    Some(Word { start, end })
 }
 
 // Whether two words have the same bytes.
 pub fn is_same(a: &[u8], b: &[u8]) -> bool
     ensures { result ≡ same a.now b.now }
 {
-    check::same(a, b)
+    a == b
 }
 
 // The number that a word says, at most `most`.
-pub fn read_numeral(word: &[u8], most: u32) -> Numeral
+pub fn read_numeral(word: &[u8], most: u32) -> Result<u32, NumeralError>
     ensures { result ≡ numeral_of most word.now }
 {
-    let digits = span_end(word, 0, Class::Digit);
-    if digits < word.len() {
-        return Numeral::Other;
+    if !is_digits(word) {
+        return Err(NumeralError::NotDigits);
     }
-    let bound = most as u64;
+    let bound = u64::from(most);
     let mut value: u64 = 0;
-    let mut i: usize = 0;
-    while i < word.len() {
-        value = 10 * value + (word[i] - b'0') as u64;
+    for &byte in word {
+        value = 10 * value + u64::from(byte - b'0');
         if bound < value {
-            return Numeral::TooLarge;
+            return Err(NumeralError::TooLarge);
         }
-        i += 1;
     }
-    Numeral::Value(value as u32)
+    Ok(value as u32)
+}
+
+// Whether a word has only digits.
+fn is_digits(word: &[u8]) -> bool
+    ensures { result ≡ all_digits word.now }
+{
+    word.iter().all(|byte| byte.is_ascii_digit())
 }

@@ -1,4 +1,4 @@
--- The text of document 01's log, and of other logs, by computation. Assumes nothing.
+-- The text of the example log, and of other logs, by computation. Assumes nothing.
 use Prim.Native.Nat.{ℕ}
 use mathlib.Core.Path.{◌≡◌, refl}
 use mathlib.Core.List.{List, [], ◌∷◌, ◌++◌}
@@ -23,7 +23,7 @@ least : signed (negsuc 2147483647) ≡ ascii "-2147483648"
 unfolding digits
 least = refl
 
--- document 01's log
+-- the example log
 abbrev log : List ℕ
 log = 0x40 ∷ 0x01 ∷ 0x01 ∷ 0x0A ∷ 0x00 ∷ 0x01 ∷ 0x02 ∷ 0x14 ∷ 0x00 ∷ 0x02 ∷ 0x05 ∷ 0x0C ∷ 0x03 ∷ 0x08 ∷ 0x01 ∷ 0x03 ∷ 0x18 ∷ 0x00 ∷ 0x03 ∷ 0x1C ∷ []
 

@@ -8,6 +8,7 @@ use native.Mathlib.Omega.{arith}
 use mir.Syntax.{w32}
 use mir.Val.{SFits}
 use lib.IntN.{ℤ, pos, negsuc}
+use Rattle.std.specs.Prelude.{None}
 use lib.ListN.{length, drop, length-append, length-replicate}
 use lib.Seq.{drop-append_seam}
 use borrow.Author.Tests.{le-leb, lt-leb}
@@ -19,10 +20,8 @@ use Rattle.model.specs.Pool.{Stored, perform, create}
 use Rattle.model.proofs.Tests.{by, and_l, and_r}
 use Rattle.numbers.specs.Number.{number_bound}
 use Rattle.call_log.specs.declared.Record.{Record}
-use Rattle.call_log.specs.declared.Start.TheVariants as start
-use Rattle.call_log.specs.declared.Read.TheVariants.{Taken, End, Bad}
-use Rattle.call_log.specs.Record.{record_of, encode_record}
-use Rattle.call_log.specs.Log.{start_bytes, start_of, encode_records, log_of, AllExpressible}
+use Rattle.call_log.specs.Record.{taken, end, bad, record_of, encode_record}
+use Rattle.call_log.specs.Log.{start_bytes, start, start_of, encode_records, log_of, AllExpressible}
 use Rattle.call_log.proofs.Theorems.{record-encode, record-length}
 use Rattle.call_log.proofs.Starts.{start_encode}
 use Rattle.text.specs.Ascii.{ascii}
@@ -114,17 +113,17 @@ records_skip (suc n) at count p (b ∷ s) =
     let e : at + 1 + n ≡ at + suc n = omega arith in records_skip n (at + 1) count p s ∙ rw e
 
 module _ (at count : ℕ) (p : Stored) where
-  pub records_end : (s : List ℕ) → record_of s ≡ End → records_text 0 at count p s ≡ end_line count
+  pub records_end : (s : List ℕ) → record_of s ≡ end → records_text 0 at count p s ≡ end_line count
   unfolding records_text
   records_end [] e = refl
   records_end (b ∷ s) e = rw (e, records_text)
 
-  pub records_bad : (s : List ℕ) → record_of s ≡ Bad → records_text 0 at count p s ≡ bad_line at
+  pub records_bad : (s : List ℕ) → record_of s ≡ bad → records_text 0 at count p s ≡ bad_line at
   unfolding records_text record_of
   records_bad [] e = let z : ◌≡◌ {A = ℕ} 0 1 = cc in absurd (omega arith)
   records_bad (b ∷ s) e = rw (e, records_text)
 
-  pub records_taken : (s : List ℕ) (r : Record) (n : ℕ) → record_of s ≡ Taken r n
+  pub records_taken : (s : List ℕ) (r : Record) (n : ℕ) → record_of s ≡ taken r n
       → records_text 0 at count p s
       ≡ answer_text (perform rules (call_of r) p).said ++ records_text 0 (at + n) (count + 1) (perform rules (call_of r) p).state (drop n s)
   unfolding records_text
@@ -172,11 +171,11 @@ module _ (a : Attributes) (log : List ℕ) where
     unfolding transcript_of
     text = rw (le-leb (length log) longest_log fits, transcript_of)
 
-    pub transcript_bad : start_of log ≡ start.Bad → transcript_of a log ≡ bad_line 0
+    pub transcript_bad : start_of log ≡ None → transcript_of a log ≡ bad_line 0
     unfolding pool_text
     transcript_bad e = text ∙ rw e
 
-    module _ (n order place : ℕ) (e : start_of log ≡ start.Taken n order place) where
+    module _ (n order place : ℕ) (e : start_of log ≡ start n order place) where
       abbrev own : Attributes
       own = with_order order a
 
@@ -192,6 +191,6 @@ module _ (a : Attributes) (log : List ℕ) where
 pub transcript_run : (a : Attributes) (n order : ℕ) (rs : List Record) → length (log_of n order rs) ≤ longest_log → n < number_bound → (rules (with_order order a) n).valid ≡ true → AllExpressible rs
     → transcript_of a (log_of n order rs) ≡ pool_line n ++ (turns_text (run (perform rules) (fresh_pool (with_order order a) n).state (calls_of rs)) ++ end_line (length rs))
 transcript_run a n order rs fits small v h =
-    let start = start_bytes n order in
-    transcript_pool a (log_of n order rs) fits n order (length start) (start_encode n order rs small (valid-order (with_order order a) n v) h) v
-    ∙ rw (drop-append_seam start (encode_records rs), records-run rs (length start) 0 (fresh_pool (with_order order a) n).state h, zero-add (length rs))
+    let first = start_bytes n order in
+    transcript_pool a (log_of n order rs) fits n order (length first) (start_encode n order rs small (valid-order (with_order order a) n v) h) v
+    ∙ rw (drop-append_seam first (encode_records rs), records-run rs (length first) 0 (fresh_pool (with_order order a) n).state h, zero-add (length rs))

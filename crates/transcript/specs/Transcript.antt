@@ -1,5 +1,5 @@
 -- The whole text of a log: what a program writes that makes the calls of the log on a pool of zeros with given attributes and the order that the log says.
-use Rattle.std.specs.Prelude.{ℕ, zero, suc, ◌+◌, ◌-◌, List, [], ◌∷◌, ◌++◌, true, false, leb, length, replicate}
+use Rattle.std.specs.Prelude.{ℕ, zero, suc, ◌+◌, ◌-◌, List, [], ◌∷◌, ◌++◌, true, false, leb, length, replicate, Option, Some, None, Ok, Err}
 use Rattle.model.specs.declared.Attributes.{Attributes}
 use Rattle.model.specs.declared.Woken.{Woken}
 use Rattle.model.specs.Limits.{lowest_priority}
@@ -10,8 +10,7 @@ use Rattle.model.specs.Pool.{Stored, perform, create}
 use Rattle.call_log.specs.declared.Record.{Record}
 use Rattle.call_log.specs.declared.Record.TheVariants.{Get, Poll, Release, Cancel, Tick, PriorityGet, PriorityPoll}
 use Rattle.call_log.specs.declared.Start.{Start}
-use Rattle.call_log.specs.declared.Start.TheVariants as start
-use Rattle.call_log.specs.declared.Read.TheVariants.{Taken, End, Bad}
+use Rattle.call_log.specs.declared.Taken.{Taken}
 use Rattle.call_log.specs.Record.{record_of}
 use Rattle.call_log.specs.Log.{start_of}
 use Rattle.transcript.specs.Lines.{pool_line, answer_line, woken_line, end_line, bad_line, refused_line, too_long_line}
@@ -45,11 +44,11 @@ records_text skip at count p [] = end_line count
 records_text (suc n) at count p (b ∷ s) = records_text n (at + 1) count p s
 records_text zero at count p (b ∷ s) =
     elim (record_of (b ∷ s)) [
-      | Taken r n ↦
-          answer_text (perform rules (call_of r) p).said
-          ++ records_text (n - 1) (at + 1) (count + 1) (perform rules (call_of r) p).state s
-      | End ↦ end_line count
-      | Bad ↦ bad_line at
+      | Ok (Some t) ↦
+          answer_text (perform rules (call_of t.record) p).said
+          ++ records_text (t.size - 1) (at + 1) (count + 1) (perform rules (call_of t.record) p).state s
+      | Ok None ↦ end_line count
+      | Err e ↦ bad_line at
     ]
 
 -- the pool that is created of n zeros
@@ -61,11 +60,11 @@ abbrev pub with_order : ℕ → Attributes → Attributes
 with_order o a = record { kinds = a.kinds; greatest = a.greatest; order = o }
 
 -- the text after the pool's length and order have been read. Create refuses where the length or the attributes are not valid.
-unfoldable pub pool_text : Attributes → Start → List ℕ → List ℕ
-pool_text a start.Bad log = bad_line 0
-pool_text a (start.Taken n order place) log =
-    elim (rules (with_order order a) n).valid [
-      | true ↦ pool_line n ++ records_text place 0 0 (fresh_pool (with_order order a) n).state log
+unfoldable pub pool_text : Attributes → Option Start → List ℕ → List ℕ
+pool_text a None log = bad_line 0
+pool_text a (Some s) log =
+    elim (rules (with_order s.order a) s.length).valid [
+      | true ↦ pool_line s.length ++ records_text s.size 0 0 (fresh_pool (with_order s.order a) s.length).state log
       | false ↦ refused_line
     ]
 

@@ -1,77 +1,79 @@
-// The lines that a program writes for a log of calls, into a lent buffer from a place on. Each function answers the place
-// after its line.
+// The lines that a program writes for a log of calls.
 #![tactic(auto)]
 
-ghost use Rattle.std.specs.Prelude.{◌+◌, ◌≤◌, length};
-ghost use Rattle.numbers.specs.Wrote.{Wrote};
+ghost use Rattle.output.specs.Puts.{Room, Puts};
 ghost use Rattle.transcript.specs.Lines.{signed, pool_line, answer_line, woken_line, end_line, bad_line, refused_line, too_long_line, longest_answer, longest_line};
 
+use output::Output;
+
 // The line `pool N`.
-pub fn pool_line(buf: &mut [u8], at: usize, n: usize) -> usize
-    requires { at + longest_line ≤ length buf.old }
-    ensures { Wrote buf.old at (pool_line n) buf.new result }
+pub fn pool_line(out: &mut Output, n: usize)
+    requires { Room longest_line out.old }
+    ensures { Puts out.old (pool_line n) out.new }
 {
-    text::put_around(buf, at, b"pool ", n, b"\n")
+    text::put_around(out, b"pool ", n, b"\n");
 }
 
 // The line `code offset` of an answer.
-pub fn answer_line(buf: &mut [u8], at: usize, code: i32, offset: usize) -> usize
-    requires { at + longest_answer ≤ length buf.old }
-    ensures { Wrote buf.old at (answer_line code offset) buf.new result }
+pub fn answer_line(out: &mut Output, code: i32, offset: usize)
+    requires { Room longest_answer out.old }
+    ensures { Puts out.old (answer_line code offset) out.new }
 {
-    let i = put_signed(buf, at, code);
-    text::put_around(buf, i, b" ", offset, b"\n")
+    put_signed(out, code);
+    text::put_around(out, b" ", offset, b"\n");
 }
 
 // The line `w task code offset` of a woken task.
-pub fn woken_line(buf: &mut [u8], at: usize, task: u32, code: i32, offset: usize) -> usize
-    requires { at + longest_line ≤ length buf.old }
-    ensures { Wrote buf.old at (woken_line task code offset) buf.new result }
+pub fn woken_line(out: &mut Output, task: u32, code: i32, offset: usize)
+    requires { Room longest_line out.old }
+    ensures { Puts out.old (woken_line task code offset) out.new }
 {
-    let i = text::put_around(buf, at, b"w ", task as usize, b" ");
-    answer_line(buf, i, code, offset)
+    text::put_around(out, b"w ", task as usize, b" ");
+    answer_line(out, code, offset);
 }
 
 // The line `end K records`.
-pub fn end_line(buf: &mut [u8], at: usize, count: usize) -> usize
-    requires { at + longest_line ≤ length buf.old }
-    ensures { Wrote buf.old at (end_line count) buf.new result }
+pub fn end_line(out: &mut Output, count: usize)
+    requires { Room longest_line out.old }
+    ensures { Puts out.old (end_line count) out.new }
 {
-    text::put_around(buf, at, b"end ", count, b" records\n")
+    text::put_around(out, b"end ", count, b" records\n");
 }
 
 // The line `bad log at P`.
-pub fn bad_line(buf: &mut [u8], at: usize, place: usize) -> usize
-    requires { at + longest_line ≤ length buf.old }
-    ensures { Wrote buf.old at (bad_line place) buf.new result }
+pub fn bad_line(out: &mut Output, place: usize)
+    requires { Room longest_line out.old }
+    ensures { Puts out.old (bad_line place) out.new }
 {
-    text::put_around(buf, at, b"bad log at ", place, b"\n")
+    text::put_around(out, b"bad log at ", place, b"\n");
 }
 
 // The line `pool refused -17`.
-pub fn refused_line(buf: &mut [u8], at: usize) -> usize
-    requires { at + longest_line ≤ length buf.old }
-    ensures { Wrote buf.old at refused_line buf.new result }
+pub fn refused_line(out: &mut Output)
+    requires { Room longest_line out.old }
+    ensures { Puts out.old refused_line out.new }
 {
-    text::put_text(buf, at, b"pool refused -17\n")
+    out.put(b"pool refused -17\n");
 }
 
 // The line `log too long`.
-pub fn too_long_line(buf: &mut [u8], at: usize) -> usize
-    requires { at + longest_line ≤ length buf.old }
-    ensures { Wrote buf.old at too_long_line buf.new result }
+pub fn too_long_line(out: &mut Output)
+    requires { Room longest_line out.old }
+    ensures { Puts out.old too_long_line out.new }
 {
-    text::put_text(buf, at, b"log too long\n")
+    out.put(b"log too long\n");
 }
 
-// An integer, with a minus sign where it is negative. An i32 has at most 10 digits.
-fn put_signed(buf: &mut [u8], at: usize, v: i32) -> usize
-    requires { at + 11 ≤ length buf.old }
-    ensures { Wrote buf.old at (signed v) buf.new result }
+// An integer, with a minus sign where it is negative, by hand as `text::put_decimal`. An i32 has at most 10 digits.
+fn put_signed(out: &mut Output, value: i32)
+    requires { Room 11 out.old }
+    ensures { Puts out.old (signed value) out.new }
 {
-    if v < 0 {
-        buf[at] = b'-';
-        return text::put_decimal(buf, at + 1, (-(v as i64)) as usize);
+    let digits = value.unsigned_abs() as usize;
+    if value < 0 {
+        out.put_byte(b'-');
+        text::put_decimal(out, digits);
+        return;
     }
-    text::put_decimal(buf, at, v as usize)
+    text::put_decimal(out, digits);
 }

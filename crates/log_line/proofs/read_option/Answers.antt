@@ -5,4 +5,4 @@ use Rattle.log_text.proofs.Bounds.{number_most_lem}
 use Rattle.log_line.proofs.read_option.Goals as goal
 
 pub overflow_add-result : goal.overflow_add-result
-overflow_add-result c = omega (arith, number_most_lem c.args.most (words_in (drop c.in-At.end c.args.s.now)) (sym c.in-Taken.ensures), c.ranges.most)
+overflow_add-result c = omega (arith, number_most_lem c.args.most (words_in (drop c.read_flag-flag.result.next c.args.s.now)) (sym c.in_ok-number.ensures), c.ranges.most)

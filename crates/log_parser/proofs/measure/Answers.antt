@@ -1,33 +1,36 @@
 -- A line that is refused, the loop's `Measuring`, and the answer behind the last line.
-use Rattle.std.proofs.Common.{◌∙◌, sym, arith}
-use Rattle.text.proofs.Pieces.{line-inside}
-use Rattle.log_parser.proofs.Measuring.{measuring_most, measuring_line, measuring_refused, measuring_next, measuring_none, measuring_log}
+use Rattle.std.proofs.Common.{◌≡◌, ◌∙◌, sym, Ok, Err, rules, arith}
+use Rattle.log_parser.specs.declared.ParseError.TheVariants.{Refused}
+use Rattle.log_parser.proofs.Measuring.{mapped-err, measuring_most, measuring_line, measuring_refused, measuring_next, measuring_none, measuring_log}
 use Rattle.log_parser.proofs.measure.Goals as goal
 
-pub slice_bounds-line_after-end : goal.slice_bounds-line_after-end
-slice_bounds-line_after-end c = line-inside _ _ _ c.loop-at-test.true c.span_end-end.ensures
-
-pub returns-then-is_refused : goal.returns-then-is_refused
-returns-then-is_refused c =
-    c.refuse.ensures
-    ∙ measuring_refused c.loop-at.invariant c.loop-at-test.true c.span_end-end.ensures c.line_after-line.ensures
-    (sym c.is_refused.ensures ∙ c.if-is_refused.true)
+pub returns-in_err-said : goal.returns-in_err-said
+returns-in_err-said c =
+    let why = mapped-err c.line_after-read.result _ c.map_err.ensures.cases c.in_err-said.was in
+    let e : c.from_residual.result ≡ Err (Refused c.loop-line.number why.0) = search rules in
+    rw e (measuring_refused c.loop-line.invariant c.in-Some.ensures.steps (sym why.1 ∙ c.line_after-read.ensures))
 
 pub line_length-length-requires : goal.line_length-length-requires
-line_length-length-requires c = measuring_line c.loop-at.invariant c.loop-at-test.true c.span_end-end.ensures c.line_after-line.ensures
+line_length-length-requires c =
+    let read : c.line_after-read.result ≡ Ok c.in_ok-said.said = search rules in
+    measuring_line c.loop-line.invariant c.in-Some.ensures.steps (sym read ∙ c.line_after-read.ensures)
 
 pub overflow_add-length : goal.overflow_add-length
 overflow_add-length c =
-    let line = measuring_line c.loop-at.invariant c.loop-at-test.true c.span_end-end.ensures c.line_after-line.ensures in
-    omega (arith, measuring_most c.loop-at.invariant, c.line_length-length.ensures)
+    let read : c.line_after-read.result ≡ Ok c.in_ok-said.said = search rules in
+    let line = measuring_line c.loop-line.invariant c.in-Some.ensures.steps (sym read ∙ c.line_after-read.ensures) in
+    omega (arith, measuring_most c.loop-line.invariant, c.line_length-length.ensures)
 
-pub loop-at-preserved : goal.loop-at-preserved
-loop-at-preserved c =
-    measuring_next c.loop-at.invariant c.loop-at-test.true c.span_end-end.ensures c.line_after-line.ensures
-    (sym c.is_refused.ensures ∙ c.if-is_refused.false) c.line_length-length.ensures c.call_count-count.ensures
+pub overflow_add-number : goal.overflow_add-number
+overflow_add-number c = omega (arith, measuring_most c.loop-line.invariant)
+
+pub loop-line-preserved : goal.loop-line-preserved
+loop-line-preserved c =
+    let read : c.line_after-read.result ≡ Ok c.in_ok-said.said = search rules in
+    measuring_next c.loop-line.invariant c.in-Some.ensures.steps (sym read ∙ c.line_after-read.ensures) c.line_length-length.ensures c.call_count-count.ensures
 
 pub returns-then-length-eq0 : goal.returns-then-length-eq0
-returns-then-length-eq0 c = measuring_none c.loop-at.invariant c.loop-at-test.false c.if-length-eq0.true
+returns-then-length-eq0 c = measuring_none c.loop-line.invariant c.in-None.ensures.steps.0 c.if-length-eq0.true
 
 pub returns : goal.returns
-returns c = measuring_log c.loop-at.invariant c.loop-at-test.false c.if-length-eq0.false
+returns c = measuring_log c.loop-line.invariant c.in-None.ensures.steps.0 c.if-length-eq0.false

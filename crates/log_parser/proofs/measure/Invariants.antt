@@ -1,10 +1,7 @@
 -- The loop keeps `Measuring`: the lines read so far.
-use Rattle.std.proofs.Common.{length, ◌-◌}
+use Rattle.text.specs.Words.{lines_of}
 use Rattle.log_parser.proofs.Measuring.{Measuring}
 use Rattle.log_parser.proofs.measure.Given as goal
 
-abbrev pub invariant-loop-at : goal.invariant-loop-at
-invariant-loop-at l = Measuring l.text l.at l.number l.count l.length
-
-abbrev pub decreases-loop-at : goal.decreases-loop-at
-decreases-loop-at l = length l.text - l.at
+abbrev pub invariant-loop-line : goal.invariant-loop-line
+invariant-loop-line l = Measuring l.text (lines_of l.line-iterator.rest.now) l.number l.count l.length

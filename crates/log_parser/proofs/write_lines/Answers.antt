@@ -1,16 +1,18 @@
 -- The loop's `Storing`, and that all is written behind the last line.
-use Rattle.text.proofs.Pieces.{line-inside}
-use Rattle.log_parser.proofs.Storing.{storing_fits, storing_next, storing_done}
+use Rattle.std.proofs.Common.{◌∙◌, sym}
+use Rattle.log_parser.proofs.Storing.{storing_ok, storing_room, storing_next, storing_done}
 use Rattle.log_parser.proofs.write_lines.Goals as goal
 
-pub slice_bounds-read_line-end : goal.slice_bounds-read_line-end
-slice_bounds-read_line-end c = line-inside _ _ _ c.loop-at-test.true c.span_end-end.ensures
+pub unwrap-said-requires : goal.unwrap-said-requires
+unwrap-said-requires c = storing_ok c.requires c.loop-line.invariant c.in-Some.ensures.steps c.read_line.ensures
 
-pub write_line-place-requires : goal.write_line-place-requires
-write_line-place-requires c = storing_fits c.requires.1 c.loop-at.invariant c.loop-at-test.true c.span_end-end.ensures c.read_line-line.ensures
+pub write_line-requires : goal.write_line-requires
+write_line-requires c =
+    storing_room c.requires c.loop-line.invariant c.in-Some.ensures.steps (sym c.unwrap-said.ensures ∙ c.read_line.ensures)
 
-pub loop-at-preserved : goal.loop-at-preserved
-loop-at-preserved c = storing_next c.requires.1 c.loop-at.invariant c.loop-at-test.true c.span_end-end.ensures c.read_line-line.ensures c.write_line-place.ensures
+pub loop-line-preserved : goal.loop-line-preserved
+loop-line-preserved c =
+    storing_next c.requires c.loop-line.invariant c.in-Some.ensures.steps (sym c.unwrap-said.ensures ∙ c.read_line.ensures) c.write_line.ensures
 
 pub returns : goal.returns
-returns c = storing_done c.requires.1 c.loop-at.invariant c.loop-at-test.false
+returns c = storing_done c.requires c.loop-line.invariant c.in-None.ensures.steps.0

@@ -1,10 +1,7 @@
 -- The loop keeps `Storing`: the lines written so far.
-use Rattle.std.proofs.Common.{length, ◌-◌}
+use Rattle.text.specs.Words.{lines_of}
 use Rattle.log_parser.proofs.Storing.{Storing}
 use Rattle.log_parser.proofs.write_lines.Given as goal
 
-abbrev pub invariant-loop-at : goal.invariant-loop-at
-invariant-loop-at l = Storing l.text l.fn.buf l.at l.buf l.place
-
-abbrev pub decreases-loop-at : goal.decreases-loop-at
-decreases-loop-at l = length l.text - l.at
+abbrev pub invariant-loop-line : goal.invariant-loop-line
+invariant-loop-line l = Storing l.text l.initial.out (lines_of l.line-iterator.rest.now) l.out

@@ -1,37 +1,52 @@
 -- `measure` meets its contract.
-use Rattle.std.proofs.Common.{arith, sym, ◌∙◌}
+use Rattle.std.proofs.Common.{arith, sym, ◌∙◌, ◌≡◌, Ok, Err, Some, None, rules}
 use Rattle.call_log.proofs.Reading.{suffix}
 use Rattle.call_log.proofs.Theorems.{record-length, record_expressible}
 use Rattle.log_text.proofs.Widths.{record-short}
-use Rattle.log_printer.proofs.Measuring.{measuring_start, measuring_stop, measuring_many, measuring_next}
+use Rattle.log_printer.specs.declared.PrintError.TheVariants.{Bad}
+use Rattle.log_printer.proofs.Measuring.{measuring_start, measuring_end, measuring_bad, measuring_many, measuring_next}
 use Rattle.log_printer.proofs.measure.Goals as goal
 
-pub loop-item-init : goal.loop-item-init
-loop-item-init c = measuring_start _ _ _ c.requires.0 c.requires.1
+pub loop-taken-init : goal.loop-taken-init
+loop-taken-init c = measuring_start _ _ _ c.requires.0 c.requires.1
 
-pub returns-in_default : goal.returns-in_default
-returns-in_default c =
-    c.stop.ensures ∙ measuring_stop c.loop-item.invariant _ (sym (rw suffix at c.read_record-read.ensures)) c.in_default.not-Taken
+pub returns-in_err-taken : goal.returns-in_err-taken
+returns-in_err-taken c =
+    let e : c.from_residual.result ≡ Err (Bad c.loop-taken.at) = search rules in
+    let bad : c.read_record.result ≡ Err (record {}) = search rules in
+    rw e (measuring_bad c.loop-taken.invariant (sym (rw suffix at c.read_record.ensures) ∙ bad))
 
 pub returns-then-count-ge-MOST_RECORDS : goal.returns-then-count-ge-MOST_RECORDS
 returns-then-count-ge-MOST_RECORDS c =
-    measuring_many c.loop-item.invariant _ _ (sym (rw suffix at c.in-Taken.ensures)) c.if-count-ge-MOST_RECORDS.true
+    let read : c.read_record.result ≡ Ok (Some c.in-Some.taken) = search rules in
+    measuring_many c.loop-taken.invariant _ _ (sym (rw suffix at c.read_record.ensures) ∙ read) c.if-count-ge-MOST_RECORDS.true
 
 pub line_length-length-requires : goal.line_length-length-requires
 line_length-length-requires c =
-    rw c.parts_of.ensures (record-short _ (record_expressible _ _ _ (sym (rw suffix at c.in-Taken.ensures))))
+    let read : c.read_record.result ≡ Ok (Some c.in-Some.taken) = search rules in
+    rw c.parts_of.ensures (record-short _ (record_expressible _ _ _ (sym (rw suffix at c.read_record.ensures) ∙ read)))
 
-pub loop-item-preserved : goal.loop-item-preserved
-loop-item-preserved c =
-    measuring_next c.loop-item.invariant _ _ (sym (rw suffix at c.in-Taken.ensures)) c.if-count-ge-MOST_RECORDS.false _
+pub loop-taken-preserved : goal.loop-taken-preserved
+loop-taken-preserved c =
+    let read : c.read_record.result ≡ Ok (Some c.in-Some.taken) = search rules in
+    measuring_next c.loop-taken.invariant _ _ (sym (rw suffix at c.read_record.ensures) ∙ read) c.if-count-ge-MOST_RECORDS.false _
     (rw c.parts_of.ensures at c.line_length-length.ensures)
 
 pub overflow_add-length : goal.overflow_add-length
-overflow_add-length c = omega (arith, (loop-item-preserved c).short, (loop-item-preserved c).few)
+overflow_add-length c =
+    let read : c.read_record.result ≡ Ok (Some c.in-Some.taken) = search rules in
+    let most = record-short _ (record_expressible _ _ _ (sym (rw suffix at c.read_record.ensures) ∙ read)) in
+    omega (arith, rw c.parts_of.ensures at c.line_length-length.ensures, most, c.loop-taken.invariant.short, c.if-count-ge-MOST_RECORDS.false)
 
 pub overflow_add-at : goal.overflow_add-at
-overflow_add-at c = omega (arith, (loop-item-preserved c).inside)
+overflow_add-at c = omega (arith, (loop-taken-preserved c).inside)
 
-pub loop-item-smaller : goal.loop-item-smaller
-loop-item-smaller c =
-    omega (arith, (record-length _ _ _ (sym (rw suffix at c.in-Taken.ensures))).0, (loop-item-preserved c).inside)
+pub loop-taken-smaller : goal.loop-taken-smaller
+loop-taken-smaller c =
+    let read : c.read_record.result ≡ Ok (Some c.in-Some.taken) = search rules in
+    omega (arith, (record-length _ _ _ (sym (rw suffix at c.read_record.ensures) ∙ read)).0, (loop-taken-preserved c).inside)
+
+pub returns : goal.returns
+returns c =
+    let read : c.read_record.result ≡ Ok None = search rules in
+    measuring_end c.loop-taken.invariant (sym (rw suffix at c.read_record.ensures) ∙ read)

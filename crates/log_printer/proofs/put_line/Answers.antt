@@ -1,32 +1,51 @@
 -- `put_line` meets its contract: the slots one after another, then the newline.
-use Rattle.std.proofs.Common.{refl, rules, arith, length, ℕ, List, [], ◌≡◌, ◌+◌, ◌<◌, ◌++◌, get_or}
-use Rattle.numbers.proofs.Wrote.{wrote-append, writing_fits, writing_next, writing_end}
+use Rattle.std.proofs.Common.{refl, rules, arith, length, ℕ, List, [], ◌≡◌, ◌+◌, ◌<◌, ◌≤◌, ◌++◌, get_or, length-append}
+use Rattle.output.proofs.Puts.{puts-append, puts_room, putting_start, putting_room, putting_next, putting_end}
 use Rattle.log_text.specs.declared.Keyword.{Keyword}
 use Rattle.log_text.specs.declared.Slot.{Slot}
 use Rattle.log_text.specs.declared.Slot.TheVariants.{Number}
 use Rattle.log_text.specs.Form.{form}
-use Rattle.log_text.specs.Printing.{slot_words, spaced}
+use Rattle.output.specs.declared.Output.{Output}
+use Rattle.output.specs.Puts.{Room}
+use Rattle.text.specs.Ascii.{ascii}
+use Rattle.log_text.specs.Form.{keyword_text}
+use Rattle.log_text.specs.declared.Parts.{Parts}
+use Rattle.log_text.specs.Printing.{slot_words, spaced, parts_text}
 use Rattle.log_printer.proofs.Lines.{left_from, line_first, line_next, line-last}
 use Rattle.log_printer.proofs.put_line.Goals as goal
 
 -- the slot of a turn
-next : (k : Keyword) (vs : List ℕ) (i : ℕ) (s : Slot) → s ≡ get_or (form k) i Number → length vs ≡ 4 → i < length (form k)
-    → left_from k vs i ≡ spaced (slot_words s (get_or vs i 0)) ++ left_from k vs (i + 1)
-next k vs i s e four h = rw e (line_next k vs i h four)
+next : (k : Keyword) (vs : List ℕ) (i : ℕ) (ss : List Slot) → ss ≡ form k → length vs ≡ 4 → i < length ss
+    → left_from k vs i ≡ spaced (slot_words (get_or ss i Number) (get_or vs i 0)) ++ left_from k vs (i + 1)
+next k vs i ss e four h = rw e (line_next k vs i (rw e at h) four)
 
-pub put_slot-end-requires : goal.put_slot-end-requires
-put_slot-end-requires c =
-    writing_fits c.loop-i.invariant (spaced (slot_words c.slot_at-slot.result (get_or c.args.parts.arguments c.loop-i.i 0))) _
-    (next _ _ _ _ c.slot_at-slot.ensures (search rules) (omega (arith, c.slot_count-count.ensures)))
+-- room for the first word, and for what stands behind it
+fits : (p : Parts) (out : Output) → Room (length (parts_text p)) out → Room (length (keyword_text p.keyword) + length (left_from p.keyword p.arguments 0)) out
+fits p out h =
+    let whole : out.end + length (keyword_text p.keyword ++ left_from p.keyword p.arguments 0) ≤ length out.buffer.now = rw (← line_first p.keyword p.arguments) h in
+    omega (arith, whole, length-append (keyword_text p.keyword) (left_from p.keyword p.arguments 0))
+
+pub put-requires : goal.put-requires
+put-requires c = rw c.text.ensures (omega (arith, fits c.args.parts c.args.out.now c.requires))
+
+pub loop-i-init : goal.loop-i-init
+loop-i-init c = putting_start _ _ (puts_room _ (rw c.text.ensures at c.put.ensures) (fits c.args.parts c.args.out.now c.requires))
+
+pub put_slot-requires : goal.put_slot-requires
+put_slot-requires c = putting_room c.loop-i.invariant _ _ (next _ _ _ _ c.form-slot-items.ensures (search rules) c.loop-i-test.true)
 
 pub loop-i-preserved : goal.loop-i-preserved
-loop-i-preserved c =
-    writing_next c.loop-i.invariant _ (next _ _ _ _ c.slot_at-slot.ensures (search rules) (omega (arith, c.slot_count-count.ensures)))
-    c.put_slot-end.ensures
+loop-i-preserved c = putting_next c.loop-i.invariant _ (next _ _ _ _ c.form-slot-items.ensures (search rules) c.loop-i-test.true) c.put_slot.ensures
+
+pub put-requires-2 : goal.put-requires-2
+put-requires-2 c =
+    let parts = c.args.parts in
+    let last = line-last parts.keyword parts.arguments c.loop-i.i (omega (arith, rw c.form-slot-items.ensures at c.loop-i-test.false)) in
+    putting_room c.loop-i.invariant (ascii "\n") [] last
 
 pub returns : goal.returns
 returns c =
     let parts = c.args.parts in
-    let last = line-last parts.keyword parts.arguments c.loop-i.i (omega (arith, c.slot_count-count.ensures)) in
+    let last = line-last parts.keyword parts.arguments c.loop-i.i (omega (arith, rw c.form-slot-items.ensures at c.loop-i-test.false)) in
     rw (line_first parts.keyword parts.arguments)
-    (wrote-append c.put_keyword-end.ensures (writing_end (writing_next c.loop-i.invariant [] last c.put_text.ensures) refl))
+    (puts-append (rw c.text.ensures at c.put.ensures) (putting_end (putting_next c.loop-i.invariant [] last c.put-2.ensures) refl))

@@ -1,12 +1,7 @@
--- The loop keeps `Writing`, the slots and the newline that are left to write.
-use Rattle.std.proofs.Common.{length, ◌-◌}
-use Rattle.numbers.proofs.Wrote.{Writing}
-use Rattle.log_text.specs.Form.{form}
+-- The loop keeps `Putting`, the slots and the newline that are left to write.
+use Rattle.output.proofs.Puts.{Putting}
 use Rattle.log_printer.proofs.Lines.{left_from}
 use Rattle.log_printer.proofs.put_line.Given as goal
 
 abbrev pub invariant-loop-i : goal.invariant-loop-i
-invariant-loop-i l = Writing l.initial.buf l.initial.end (left_from l.keyword l.arguments 0) l.buf l.end (left_from l.keyword l.arguments l.i)
-
-abbrev pub decreases-loop-i : goal.decreases-loop-i
-decreases-loop-i l = length (form l.keyword) - l.i
+invariant-loop-i l = Putting l.initial.out (left_from l.parts.keyword l.parts.arguments 0) l.out (left_from l.parts.keyword l.parts.arguments l.i)

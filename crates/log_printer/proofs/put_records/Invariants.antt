@@ -3,8 +3,8 @@ use Rattle.std.proofs.Common.{length, ◌-◌}
 use Rattle.log_printer.proofs.Putting.{Putting}
 use Rattle.log_printer.proofs.put_records.Given as goal
 
-abbrev pub invariant-loop-item : goal.invariant-loop-item
-invariant-loop-item l = Putting l.log l.place l.fn.buf l.at l.buf l.end l.next
+abbrev pub invariant-loop-taken : goal.invariant-loop-taken
+invariant-loop-taken l = Putting l.log l.place l.initial.out l.out l.next
 
-abbrev pub decreases-loop-item : goal.decreases-loop-item
-decreases-loop-item l = length l.log - l.next
+abbrev pub decreases-loop-taken : goal.decreases-loop-taken
+decreases-loop-taken l = length l.log - l.next

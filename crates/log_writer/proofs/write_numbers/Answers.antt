@@ -1,9 +1,13 @@
-use Rattle.numbers.proofs.Wrote.{writing_fitted, writing_end}
+use Rattle.output.proofs.Puts.{putting_start, putting_fitted, putting_end}
 use Rattle.call_log.proofs.Fields.{encode_next, encode_past}
 use Rattle.log_writer.proofs.write_numbers.Goals as goal
 
-pub loop-i-preserved : goal.loop-i-preserved
-loop-i-preserved c = writing_fitted c.loop-i.invariant _ _ (encode_next _ c.loop-i.i c.loop-i-test.true) c.write_number-at.ensures
+pub loop-value-init : goal.loop-value-init
+loop-value-init c = putting_start _ _ c.requires
+
+pub loop-value-preserved : goal.loop-value-preserved
+loop-value-preserved c =
+    putting_fitted c.loop-value.invariant _ _ (encode_next _ c.loop-value.value-index c.loop-value-test.true) c.write_number.ensures
 
 pub returns : goal.returns
-returns c = writing_end c.loop-i.invariant (encode_past _ _ c.loop-i-test.false)
+returns c = putting_end c.loop-value.invariant (encode_past _ _ c.loop-value-test.false)

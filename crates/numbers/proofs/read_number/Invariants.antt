@@ -1,10 +1,7 @@
 -- The groups read so far stand in front of the rest.
-use Rattle.std.proofs.Common.{length, ◌-◌, ◌<◌}
+use Rattle.std.proofs.Common.{length, ◌+◌}
 use Rattle.numbers.proofs.Reading.{Reading}
 use Rattle.numbers.proofs.read_number.Given as goal
 
 abbrev pub invariant-loop-i : goal.invariant-loop-i
-invariant-loop-i l = Reading l.s l.value l.weight l.i × (0 < l.i)
-
-abbrev pub decreases-loop-i : goal.decreases-loop-i
-decreases-loop-i l = length l.s - l.i
+invariant-loop-i l = Reading l.s l.value l.weight (length l.yielded + 1)

@@ -6,7 +6,7 @@ use Rattle.pool.proofs.create.Goals as goal
 
 pub returns-then-not-is_valid : goal.returns-then-not-is_valid
 returns-then-not-is_valid c =
-    rw c.refuse.ensures (create-refused c.args.attributes c.args.pool.now c.empty.result c.empty.ensures (sym c.is_valid.ensures ∙ c.if-not-is_valid.true))
+    rw c.deny.ensures (create-refused c.args.attributes c.args.pool.now c.empty.result c.empty.ensures (sym c.is_valid.ensures ∙ c.if-not-is_valid.true))
 
 pub write_header-requires : goal.write_header-requires
 write_header-requires c =
@@ -15,5 +15,5 @@ write_header-requires c =
 
 pub returns : goal.returns
 returns c =
-    rw c.refuse-2.ensures
+    rw c.refuse.ensures
     (create_done c.args.attributes c.args.pool.now c.empty-2.result c.empty-2.ensures (sym c.is_valid.ensures ∙ c.if-not-is_valid.false) c.write_header.new.s c.write_header.ensures)

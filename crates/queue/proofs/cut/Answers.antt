@@ -1,31 +1,16 @@
 -- proofs/cut/Answers.antt
-use Rattle.std.proofs.Common.{◌≡◌, ◌+◌, length, get_or, refl, sym, ◌∙◌, arith, rules, get_or-set_other}
-use Rattle.std.proofs.Math.ListN.{get_or-eq_default}
+use Rattle.std.proofs.Common.{◌≡◌, ◌-◌, length, take, drop, replicate, length-take, length-drop, ◌∙◌, arith, rules}
+use Rattle.model.specs.declared.Entry.{Entry}
 use Rattle.model.specs.Limits.{most_tasks}
-use Rattle.model.specs.Places.{no_entry, used}
-use Rattle.queue.proofs.Places.{tidy-entry, copy_step, copy_end}
+use Rattle.model.specs.Places.{no_entry}
+use Rattle.queue.proofs.Places.{cut_places, cut_entries}
 use Rattle.queue.proofs.cut.Goals as goal
-use Rattle.queue.proofs.cut.Goals.{then-k-lt-TASKS, else-k-lt-TASKS}
-
-pub loop-i-init : goal.loop-i-init
-loop-i-init c = (refl, search rules, λ k h. refl)
-
-pub loop-i-preserved : goal.loop-i-preserved
-loop-i-preserved c =
-    let x = c.loop-i in
-    let es = c.args.entries in
-    let k = x.i + c.args.count in
-    let n : length es ≡ most_tasks = search rules in
-    let e : c.if-k-lt-TASKS.e ≡ get_or es k no_entry =
-    elim c.if-k-lt-TASKS.branch [
-      | then-k-lt-TASKS w ↦ w.e-is ∙ x.invariant.2 k (omega arith)
-      | else-k-lt-TASKS w ↦ w.e-is ∙ sym (get_or-eq_default es no_entry {n = k} (omega (arith, w.if-k-lt-TASKS.false)))
-    ] in
-    let next : k + 1 ≡ x.i + 1 + c.args.count = omega arith in (
-      x.invariant.0 ∙ copy_step no_entry most_tasks x.i k x.out (used es) (omega arith) ∙ rw (next, e ∙ tidy-entry es k c.requires.0),
-      search rules,
-      λ j h. get_or-set_other x.out x.i j c.if-k-lt-TASKS.e no_entry (λ z. omega (arith, z)) ∙ x.invariant.2 j (omega arith),
-    )
 
 pub returns : goal.returns
-returns c = let x = c.loop-i in sym (x.invariant.0 ∙ copy_end no_entry most_tasks x.i x.out _ x.invariant.1 c.loop-i-test.false)
+returns c =
+    let g = c.args in
+    let n : length g.entries ≡ most_tasks = search rules in
+    let e : c.default.result ≡ no_entry = search rules in
+    let k : length (take (32 - (32 - g.count)) (drop (32 - g.count) c.copy_within.new.self)) ≡ g.count = omega (arith, length-take {A = Entry}, length-drop {A = Entry}, c.copy_within.ensures.len) in
+    let z : c.fill.new.self ≡ replicate g.count no_entry = c.fill.ensures.after (λ y k. search rules) ∙ rw (k, e) in
+    rw c.copy_within.ensures.after (cut_places no_entry most_tasks g.place g.count g.entries c.fill.new.self n c.requires.1 z) ∙ cut_entries g.place g.count g.entries c.requires.0 (omega arith) ∙ rw n

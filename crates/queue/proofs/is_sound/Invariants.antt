@@ -8,7 +8,7 @@ use Rattle.queue.specs.Entries.{sound_queue}
 use Rattle.queue.proofs.Entries.{test_from}
 use Rattle.queue.proofs.is_sound.Given as goal
 
-abbrev pub invariant-loop-i : goal.invariant-loop-i
-invariant-loop-i l =
-    ((a : Attributes) → l.most ≡ most_asked a l.n → l.order ≡ a.order → sound_queue a l.n l.entries ≡ test_from a l.n l.seen l.last l.ended (drop l.i l.entries))
+abbrev pub invariant-loop-e : goal.invariant-loop-e
+invariant-loop-e l =
+    ((a : Attributes) → l.most ≡ most_asked a l.n → l.order ≡ a.order → sound_queue a l.n l.fn.entries ≡ test_from a l.n l.seen l.last l.ended (drop l.e-index l.fn.entries))
     × (length l.seen ≡ suc most_tasks)

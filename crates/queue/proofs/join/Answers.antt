@@ -1,27 +1,22 @@
 -- proofs/join/Answers.antt
-use Rattle.std.proofs.Common.{ℕ, ◌+◌, ap, rules}
-use Rattle.queue.proofs.Joining.{join_start, join_stop, join_store, join-pass, join_end}
+use Rattle.std.proofs.Common.{◌≡◌, length, sym, ◌∙◌, arith, rules}
+use Rattle.std.specs.List.{position}
+use Rattle.model.specs.Limits.{most_tasks}
+use Rattle.queue.proofs.Places.{make_room}
+use Rattle.queue.proofs.Joining.{joins, joined_at, joined_nowhere}
 use Rattle.queue.proofs.join.Goals as goal
-use Rattle.queue.proofs.join.Goals.{then-least-rank, else-least-rank}
 
-pub loop-i-init : goal.loop-i-init
-loop-i-init c = join_start _ _ _ _ (ap (λ (n : ℕ). n + 1) c.rank-least.ensures) (search rules)
-
-pub returns-then-x-eq0 : goal.returns-then-x-eq0
-returns-then-x-eq0 c =
-    let x = c.loop-i in
-    join_stop c.args.order c.args.entries c.args.e x.out x.carried x.least x.i x.invariant c.requires.0 (search rules) c.if-x-eq0.true
-
-pub loop-i-preserved : goal.loop-i-preserved
-loop-i-preserved c =
-    let x = c.loop-i in
+pub returns-in-Some : goal.returns-in-Some
+returns-in-Some c =
     let g = c.args in
-    elim c.if-least-rank.branch [
-      | then-least-rank w ↦ rw (w.least-is, w.out-is, w.carried-is) (join_store g.order g.entries g.e x.out x.carried x.least x.i x.invariant (search rules) c.if-x-eq0.false (rw c.rank.ensures at w.if-least-rank.true))
-      | else-least-rank w ↦ rw (w.least-is, w.out-is, w.carried-is) (join-pass g.order g.entries g.e x.out x.carried x.least x.i x.invariant (search rules) c.if-x-eq0.false (rw c.rank.ensures at w.if-least-rank.false))
-    ]
+    let n : length g.entries ≡ most_tasks = search rules in
+    let e : c.place_for.result ≡ position (joins g.order g.e) g.entries = rw c.rank.ensures at c.place_for.ensures in
+    let j = joined_at g.order g.e g.entries c.in-Some.place c.requires.0 (sym c.in-Some.is ∙ e) in
+    rw c.copy_within.ensures.after (make_room g.entries c.in-Some.place 31 g.e (omega (arith, j.0)) (omega arith) ∙ sym j.1 ∙ rw n)
 
-pub returns : goal.returns
-returns c =
-    let x = c.loop-i in
-    join_end c.args.order c.args.entries c.args.e x.out x.carried x.least x.i x.invariant c.loop-i-test.false
+pub returns-in_default : goal.returns-in_default
+returns-in_default c =
+    let g = c.args in
+    let n : length g.entries ≡ most_tasks = search rules in
+    let e : c.place_for.result ≡ position (joins g.order g.e) g.entries = rw c.rank.ensures at c.place_for.ensures in
+    sym (rw n at (joined_nowhere g.order g.e g.entries c.requires.0 (sym c.in_default.is ∙ e)))

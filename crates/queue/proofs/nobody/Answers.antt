@@ -1,8 +1,9 @@
 -- proofs/nobody/Answers.antt
+use Rattle.std.proofs.Common.{◌≡◌, rules}
 use Rattle.model.specs.Limits.{most_tasks}
 use Rattle.model.specs.Places.{no_woken}
 use Rattle.queue.proofs.Places.{pad-nil}
 use Rattle.queue.proofs.nobody.Goals as goal
 
 pub returns : goal.returns
-returns c = pad-nil no_woken most_tasks
+returns c = let e : c.default.result ≡ no_woken = search rules in rw e (pad-nil no_woken most_tasks)

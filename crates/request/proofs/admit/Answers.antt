@@ -1,5 +1,5 @@
 -- Each answer cites a lemma of `Judging` at the request and the run that was found.
-use Rattle.std.proofs.Common.{◌≡◌, ℕ, length, sym, ap, ◌∙◌, arith, rules}
+use Rattle.std.proofs.Common.{◌≡◌, length, sym, ◌∙◌, arith, rules}
 use Rattle.model.specs.Limits.{most_tasks}
 use Rattle.model.specs.Blocks.{granted}
 use Rattle.layout.specs.Layout.{changed}
@@ -19,16 +19,16 @@ returns-in_default c =
 pub grant_at-requires : goal.grant_at-requires
 grant_at-requires c =
     let a = c.args in
-    rw c.need-need.ensures (admit_grantable a.pool.now a.queue a.e a.found c.requires c.in-At.spot (sym c.run_for-run.ensures ∙ c.in-At.is))
+    rw c.need-need.ensures (admit_grantable a.pool.now a.queue a.e a.found c.requires c.in-Some.spot (sym c.run_for-run.ensures ∙ c.in-Some.is))
 
 pub offset_of-requires : goal.offset_of-requires
 offset_of-requires c =
     let a = c.args in
-    omega (arith, place-small a.pool.now c.in-At.spot.place _ (admit_grantable a.pool.now a.queue a.e a.found c.requires c.in-At.spot (sym c.run_for-run.ensures ∙ c.in-At.is)))
+    omega (arith, place-small a.pool.now c.in-Some.spot.place _ (admit_grantable a.pool.now a.queue a.e a.found c.requires c.in-Some.spot (sym c.run_for-run.ensures ∙ c.in-Some.is)))
 
 pub returns : goal.returns
 returns c =
     let a = c.args in
     let n : length a.queue.entries ≡ most_tasks = search (rules, length_of_map) in
-    admit_granted a.pool.now a.queue a.e a.found c.requires c.in-At.spot (sym c.run_for-run.ensures ∙ c.in-At.is) c.offset_of.result c.nobody.result c.grant_at.new.s a.poll n
-    c.offset_of.ensures c.nobody.ensures (c.grant_at.ensures ∙ ap (λ (i : ℕ). changed (granted i a.e.task) a.pool.now) c.need-need.ensures)
+    rw c.answer.ensures (admit_granted a.pool.now a.queue a.e a.found c.requires c.in-Some.spot (sym c.run_for-run.ensures ∙ c.in-Some.is) c.offset_of.result c.nobody.result c.grant_at.new.s a.poll n
+    c.offset_of.ensures c.nobody.ensures (c.grant_at.ensures ∙ (λ i. changed (granted (c.need-need.ensures i) (c.from.ensures i)) a.pool.now)))

@@ -1,5 +1,5 @@
 -- A turn of the loop, and its end, over plain variables; each answer cites them at the step's calls.
-use Rattle.std.proofs.Common.{◌≡◌, ℕ, ◌+◌, ◌<◌, List, length, get_or, drop, set, refl, sym, ap, ◌∙◌, add-zero, arith, rules}
+use Rattle.std.proofs.Common.{Option, Some, None, ◌≡◌, ℕ, ◌+◌, ◌<◌, List, length, get_or, drop, set, refl, sym, ap, ◌∙◌, add-zero, arith, rules}
 use Rattle.std.proofs.Math.ListN.{length-drop}
 use Rattle.model.specs.declared.Answer.{Answer}
 use Rattle.model.specs.declared.Attributes.{Attributes}
@@ -14,14 +14,12 @@ use Rattle.model.specs.Calls.{offset_of, Served, no_offset, no_place}
 use Rattle.model.specs.Places.{no_entry, pad, used}
 use Rattle.model.proofs.Places.{tidy-is}
 use Rattle.layout.specs.declared.Spot.{Spot}
-use Rattle.layout.specs.declared.Found.{Found}
-use Rattle.layout.specs.declared.Found.TheVariants as found
 use Rattle.layout.specs.Layout.{first_fit_of, changed, Grantable}
 use Rattle.queue.proofs.Places.{used_stop, used_go, used_end, used-drop, used-length}
 use Rattle.state.proofs.Inspecting.{place-small}
 use Rattle.serving.proofs.Serves.{Loop, loop_starts, Still, loop_answer, loop_out, space, loop_long, loop_none, grantable, loop_on}
 use Rattle.serving.proofs.serve.Goals as goal
-use Rattle.serving.proofs.serve.Goals.{else-loop-i-test, then-loop-i-test+then-e-eq0, then-loop-i-test+else-e-eq0+then-most-need, then-loop-i-test+else-e-eq0+else-most-need+in_default}
+use Rattle.serving.proofs.serve.Goals.{else-loop-e-test, then-loop-e-test+then-e-eq0, then-loop-e-test+else-e-eq0+then-most-need, then-loop-e-test+else-e-eq0+else-most-need+in_default, then-served-gt0, else-served-gt0}
 
 abbrev this : List Entry → ℕ → Entry
 this es i = get_or es i no_entry
@@ -38,11 +36,11 @@ module _ {a : Attributes} {x : List ℕ} {n most : ℕ} {w : List Woken} {k : �
   long : most < m → Still s
   long = loop_long s (this es i) (behind es i) (used_go es i u) m em
 
-  module _ (f : Found) (ef : f ≡ first_fit_of m (blocks_of l)) where
-    none : f ≡ found.Nothing → Still s
+  module _ (f : Option Spot) (ef : f ≡ first_fit_of m (blocks_of l)) where
+    none : f ≡ None → Still s
     none e = loop_none s (this es i) (behind es i) (used_go es i u) m em (sym ef ∙ e)
 
-    module _ (p : Spot) (e : f ≡ found.At p) where
+    module _ (p : Spot) (e : f ≡ Some p) where
       fit : Grantable l p.place m
       fit = grantable s (this es i) (behind es i) (used_go es i u) m em p (sym ef ∙ e)
 
@@ -50,33 +48,44 @@ module _ {a : Attributes} {x : List ℕ} {n most : ℕ} {w : List Woken} {k : �
           → Loop a x n most w k v l' (behind es i) (set w' k' (record { task = (this es i).task; code = e_ok; offset = o })) k''
       on l' el o eo k'' ek = loop_on s (this es i) (behind es i) (used_go es i u) m em p (sym ef ∙ e) l' el _ o eo refl k'' ek
 
-pub loop-i-init : goal.loop-i-init
-loop-i-init c =
+pub loop-e-init : goal.loop-e-init
+loop-e-init c =
     let a = c.args in
-    (omega arith, rw (add-zero a.before) (loop_starts a.attributes a.pool.now a.entries (used a.entries) a.woken a.before a.most (λ i. omega (arith, c.type_inv.pool i)) c.requires (search rules) refl))
+    (refl, omega arith, rw (add-zero a.before) (loop_starts a.attributes a.pool.now a.entries (used a.entries) a.woken a.before a.most (λ i. omega (arith, c.type_inv.pool i)) c.requires (search rules) refl))
 
-pub first_fit-found-requires : goal.first_fit-found-requires
-first_fit-found-requires c = c.loop-i.invariant.1.pool
+pub first_fit-requires : goal.first_fit-requires
+first_fit-requires c = c.loop-e.invariant.2.pool
 
 pub grant_at-requires : goal.grant_at-requires
 grant_at-requires c =
-    fit c.args.entries c.loop-i.i c.loop-i.invariant.1 c.if-e-eq0.false c.need-need.result c.need-need.ensures c.first_fit-found.result c.first_fit-found.ensures c.in-At.spot c.in-At.is
+    fit c.args.entries c.loop-e.e-index c.loop-e.invariant.2 c.if-e-eq0.false c.need-need.result c.need-need.ensures c.first_fit.result c.first_fit.ensures c.in-Some.spot c.in-Some.is
 
 pub offset_of-requires : goal.offset_of-requires
 offset_of-requires c =
-    place-small c.loop-i.pool _ _ (fit c.args.entries c.loop-i.i c.loop-i.invariant.1 c.if-e-eq0.false c.need-need.result c.need-need.ensures c.first_fit-found.result c.first_fit-found.ensures c.in-At.spot c.in-At.is)
+    place-small c.loop-e.pool _ _ (fit c.args.entries c.loop-e.e-index c.loop-e.invariant.2 c.if-e-eq0.false c.need-need.result c.need-need.ensures c.first_fit.result c.first_fit.ensures c.in-Some.spot c.in-Some.is)
 
-pub bounds-noted-before : goal.bounds-noted-before
-bounds-noted-before c = spare c.args.entries c.loop-i.i c.loop-i.invariant.1 c.if-e-eq0.false c.need-need.result c.need-need.ensures
+pub overflow_add-woken : goal.overflow_add-woken
+overflow_add-woken c = omega (arith, spare c.args.entries c.loop-e.e-index c.loop-e.invariant.2 c.if-e-eq0.false c.need-need.result c.need-need.ensures)
 
-pub loop-i-preserved : goal.loop-i-preserved
-loop-i-preserved c =
+pub offset_bounds-woken-before : goal.offset_bounds-woken-before
+offset_bounds-woken-before c = omega (arith, spare c.args.entries c.loop-e.e-index c.loop-e.invariant.2 c.if-e-eq0.false c.need-need.result c.need-need.ensures)
+
+pub bounds-woken-before : goal.bounds-woken-before
+bounds-woken-before c = spare c.args.entries c.loop-e.e-index c.loop-e.invariant.2 c.if-e-eq0.false c.need-need.result c.need-need.ensures
+
+pub overflow_add-served : goal.overflow_add-served
+overflow_add-served c = omega (arith, c.loop-e.invariant.0, c.loop-e-test.true)
+
+pub loop-e-preserved : goal.loop-e-preserved
+loop-e-preserved c =
     let es = c.args.entries in
-    let x = c.loop-i in
-    let d = used-drop x.i es x.invariant.0 in
-    let z = used_go es x.i c.if-e-eq0.false in (
-      omega (arith, x.invariant.0, length-drop x.i (used es), ap length (d ∙ z)),
-      on es x.i x.invariant.1 c.if-e-eq0.false c.need-need.result c.need-need.ensures c.first_fit-found.result c.first_fit-found.ensures c.in-At.spot c.in-At.is c.grant_at.new.s c.grant_at.ensures c.offset_of.result c.offset_of.ensures (c.args.before + (x.i + 1)) (omega arith),
+    let x = c.loop-e in
+    let d = used-drop x.e-index es x.invariant.1 in
+    let z = used_go es x.e-index c.if-e-eq0.false in (
+      omega (arith, x.invariant.0),
+      omega (arith, x.invariant.1, length-drop x.e-index (used es), ap length (d ∙ z)),
+      rw c.from-in-loop-e.ensures (on es x.e-index x.invariant.2 c.if-e-eq0.false c.need-need.result c.need-need.ensures c.first_fit.result c.first_fit.ensures c.in-Some.spot c.in-Some.is c.grant_at.new.s
+          (c.grant_at.ensures ∙ ap (λ (i : ℕ). changed (granted c.need-need.result i) x.pool) c.from.ensures) c.offset_of.result c.offset_of.ensures (c.args.before + (x.served + 1)) (omega arith)),
     )
 
 -- ---- after the loop
@@ -84,34 +93,22 @@ loop-i-preserved c =
 pub rest-left-requires : goal.rest-left-requires
 rest-left-requires c =
     let n : length c.args.entries ≡ most_tasks = search rules in
-    (c.requires.places, omega (arith, n, c.loop-i.invariant.0, used-length c.args.entries))
+    (c.requires.places, omega (arith, n, c.loop-e.invariant.0, c.loop-e.invariant.1, used-length c.args.entries))
 
-pub returns-then-i-gt0 : goal.returns-then-i-gt0
-returns-then-i-gt0 c =
+pub returns : goal.returns
+returns c =
     let es = c.args.entries in
-    let x = c.loop-i in
-    let v = x.invariant.1 in
+    let x = c.loop-e in
+    let v = x.invariant.2 in
     let n : length es ≡ most_tasks = search rules in
-    let still : Still v = elim c.loop-i-test.branch [
-      | else-loop-i-test w ↦ loop_out v (used_end es x.i n w.loop-i-test.false)
-      | then-loop-i-test+then-e-eq0 w ↦ loop_out v (used_stop es x.i w.if-e-eq0.true)
-      | then-loop-i-test+else-e-eq0+then-most-need w ↦ long es x.i v w.if-e-eq0.false w.need-need.result w.need-need.ensures w.if-most-need.true
-      | then-loop-i-test+else-e-eq0+else-most-need+in_default w ↦ none es x.i v w.if-e-eq0.false w.need-need.result w.need-need.ensures w.first_fit-found.result w.first_fit-found.ensures w.in_default.is
+    let still : Still v = elim c.loop-e-test.branch [
+      | else-loop-e-test w ↦ loop_out v (used_end es x.e-index n w.loop-e-test.false)
+      | then-loop-e-test+then-e-eq0 w ↦ loop_out v (used_stop es x.e-index w.if-e-eq0.true)
+      | then-loop-e-test+else-e-eq0+then-most-need w ↦ long es x.e-index v w.if-e-eq0.false w.need-need.result w.need-need.ensures w.if-most-need.true
+      | then-loop-e-test+else-e-eq0+else-most-need+in_default w ↦ none es x.e-index v w.if-e-eq0.false w.need-need.result w.need-need.ensures w.first_fit.result w.first_fit.ensures w.in_default.is
     ] in
-    loop_answer v still _ (rw (c.rest-left.ensures, used-drop x.i es x.invariant.0))
-
-pub returns-else-i-gt0 : goal.returns-else-i-gt0
-returns-else-i-gt0 c =
-    let es = c.args.entries in
-    let x = c.loop-i in
-    let v = x.invariant.1 in
-    let n : length es ≡ most_tasks = search rules in
-    let still : Still v = elim c.loop-i-test.branch [
-      | else-loop-i-test w ↦ loop_out v (used_end es x.i n w.loop-i-test.false)
-      | then-loop-i-test+then-e-eq0 w ↦ loop_out v (used_stop es x.i w.if-e-eq0.true)
-      | then-loop-i-test+else-e-eq0+then-most-need w ↦ long es x.i v w.if-e-eq0.false w.need-need.result w.need-need.ensures w.if-most-need.true
-      | then-loop-i-test+else-e-eq0+else-most-need+in_default w ↦ none es x.i v w.if-e-eq0.false w.need-need.result w.need-need.ensures w.first_fit-found.result w.first_fit-found.ensures w.in_default.is
+    let left : c.if-served-gt0.left ≡ pad no_entry most_tasks (used (drop x.e-index es)) = elim c.if-served-gt0.branch [
+      | then-served-gt0 w ↦ w.left-is ∙ rw (w.rest-left.ensures, x.invariant.0, used-drop x.e-index es x.invariant.1)
+      | else-served-gt0 w ↦ let z : x.e-index ≡ 0 = omega (arith, x.invariant.0, w.if-served-gt0.false) in w.left-is ∙ rw z (rw (← n) (tidy-is es c.requires.places))
     ] in
-    let z : x.i ≡ 0 = omega (arith, c.if-i-gt0.false) in
-    let w : es ≡ pad no_entry most_tasks (used es) = rw (← n) (tidy-is es c.requires.places) in
-    loop_answer v still _ (rw z (ap {B = Answer} (λ (l : List Entry). record { code = e_ok; offset = no_offset; reason = 0; place = no_place; woken = x.noted; queue = record { attributes = c.args.attributes; entries = l } }) w))
+    loop_answer v still _ (c.answer.ensures ∙ ap {B = Answer} (λ (l : List Entry). record { code = e_ok; offset = no_offset; reason = 0; place = no_place; woken = x.woken; queue = record { attributes = c.args.attributes; entries = l } }) left)

@@ -1,6 +1,5 @@
 -- So many of the entries are served: the bytes, the woken list and the entries that are left lead to what all of them lead to.
-use Rattle.std.proofs.Common.{◌-◌, length, ◌+◌, ◌≤◌, drop}
-use Rattle.model.specs.Limits.{most_tasks}
+use Rattle.std.proofs.Common.{◌≡◌, length, ◌+◌, ◌≤◌, drop}
 use Rattle.model.specs.Places.{used}
 use Rattle.model.specs.Bytes.{blocks_of, erase}
 use Rattle.model.specs.Rules.{rules}
@@ -8,10 +7,7 @@ use Rattle.model.specs.Calls as calls
 use Rattle.serving.proofs.Serves.{Loop}
 use Rattle.serving.proofs.serve.Given as goal
 
-abbrev pub invariant-loop-i : goal.invariant-loop-i
-invariant-loop-i l =
+abbrev pub invariant-loop-e : goal.invariant-loop-e
+invariant-loop-e l =
     let K = rules l.attributes (length l.fn.pool) in
-    (l.i ≤ length (used l.entries)) × Loop l.attributes (erase (blocks_of l.fn.pool) l.fn.pool) (length l.fn.pool) l.most l.fn.woken l.before (calls.serve K (calls.blocks K) (blocks_of l.fn.pool) (used l.entries)) l.pool (used (drop l.i l.entries)) l.noted (l.before + l.i)
-
-abbrev pub decreases-loop-i : goal.decreases-loop-i
-decreases-loop-i l = most_tasks - l.i
+    (l.served ≡ l.e-index) × (l.e-index ≤ length (used l.e-items)) × Loop l.attributes (erase (blocks_of l.fn.pool) l.fn.pool) (length l.fn.pool) l.most l.fn.woken l.before (calls.serve K (calls.blocks K) (blocks_of l.fn.pool) (used l.e-items)) l.pool (used (drop l.e-index l.e-items)) l.woken (l.before + l.served)

@@ -1,4 +1,3 @@
--- proofs/is_greatest/Answers.antt
 use Rattle.sizes.proofs.Search.{place-within}
 use Rattle.sizes.proofs.is_greatest.Goals as goal
 

@@ -1,4 +1,3 @@
--- proofs/kind/Answers.antt
 -- The table is that of the rule, by computation.
 use Rattle.std.proofs.Common.{zero-add, rules}
 use Rattle.model.specs.Sizes.{kinds_from}

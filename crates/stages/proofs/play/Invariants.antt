@@ -3,9 +3,8 @@ use Rattle.std.proofs.Common.{◌-◌, length}
 use Rattle.stages.proofs.Playing.{Playing}
 use Rattle.stages.proofs.play.Given as goal
 
-abbrev pub invariant-loop-end : goal.invariant-loop-end
-invariant-loop-end l =
-    Playing l.log l.initial.queue l.initial.at l.initial.count l.initial.end l.initial.pool l.initial.text l.pool l.text l.queue l.at l.count l.end
+abbrev pub invariant-loop-out : goal.invariant-loop-out
+invariant-loop-out l = Playing l.log l.initial.rest l.initial.pool l.initial.out l.pool l.out l.rest
 
-abbrev pub decreases-loop-end : goal.decreases-loop-end
-decreases-loop-end l = length l.log - l.at
+abbrev pub decreases-loop-out : goal.decreases-loop-out
+decreases-loop-out l = length l.log - l.rest.at

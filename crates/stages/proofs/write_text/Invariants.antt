@@ -1,10 +1,9 @@
--- Each stage that is not the last has taken a record.
-use Rattle.std.proofs.Common.{◌-◌, length}
-use Rattle.stages.specs.Stages.{Ready}
+-- What is gathered lies within the buffer, and each stage that leaves something of the log has taken a record.
+use Rattle.stages.proofs.Playing.{Gathered, left}
 use Rattle.stages.proofs.write_text.Given as goal
 
-abbrev pub invariant-loop-stage : goal.invariant-loop-stage
-invariant-loop-stage l = Ready l.log l.text l.stage
+abbrev pub invariant-loop-left : goal.invariant-loop-left
+invariant-loop-left l = Gathered l.log l.out l.left
 
-abbrev pub decreases-loop-stage : goal.decreases-loop-stage
-decreases-loop-stage l = length l.log - l.stage.at
+abbrev pub decreases-loop-left : goal.decreases-loop-left
+decreases-loop-left l = left l.log l.left

@@ -1,14 +1,15 @@
 -- `put_around` meets its contract: one write after another.
 use Rattle.std.proofs.Common.{arith}
-use Rattle.numbers.proofs.Wrote.{wrote-append}
+use Rattle.output.proofs.Puts.{puts-append, puts_room}
 use Rattle.text.proofs.Decimal.{length_word}
 use Rattle.text.proofs.put_around.Goals as goal
 
-pub put_decimal-j-requires : goal.put_decimal-j-requires
-put_decimal-j-requires c = omega (arith, length_word c.args.n c.ranges.n.fits)
+pub put_decimal-requires : goal.put_decimal-requires
+put_decimal-requires c = puts_room _ c.put.ensures (omega (arith, length_word c.args.n c.ranges.n.fits, c.requires))
 
-pub put_text-requires : goal.put_text-requires
-put_text-requires c = omega (arith, length_word c.args.n c.ranges.n.fits)
+pub put-requires-2 : goal.put-requires-2
+put-requires-2 c =
+    puts_room _ c.put_decimal.ensures (puts_room _ c.put.ensures (omega (arith, length_word c.args.n c.ranges.n.fits, c.requires)))
 
 pub returns : goal.returns
-returns c = wrote-append c.put_text-i.ensures (wrote-append c.put_decimal-j.ensures c.put_text.ensures)
+returns c = puts-append c.put.ensures (puts-append c.put_decimal.ensures c.put-2.ensures)

@@ -1,8 +1,13 @@
--- Four stores in a row are the four bytes put at the place.
+-- A copy of four bytes over a part of the bytes is these bytes put there.
+use Rattle.std.proofs.Common.{◌+◌, ◌-◌, ◌≡◌, arith, ap, ◌∙◌, take}
 use Rattle.model.specs.Bytes.{le32}
-use Rattle.layout.proofs.Writing.{put_four}
+use Rattle.layout.proofs.Writing.{put_mid-put}
 use Rattle.layout.proofs.header.write_u32.Goals as goal
 
 pub returns : goal.returns
 unfolding le32
-returns c = put_four _ _ _ _ _ _
+returns c =
+    let a = c.args in
+    let k : a.at + 4 - a.at ≡ 4 = omega arith in
+    let e : c.copy_from_slice.new.self ≡ le32 a.n = c.copy_from_slice.ensures.after ∙ ap (take 4) c.to_le_bytes-bytes.ensures in
+    rw (k, e) (put_mid-put a.at (le32 a.n) a.s.now c.requires)

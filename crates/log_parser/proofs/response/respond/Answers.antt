@@ -1,9 +1,17 @@
--- The log, or that the buffer has no room.
-use Rattle.log_parser.proofs.Responding.{response-log, response_none}
+-- The log, or the line of the refusal.
+use Rattle.std.proofs.Common.{arith, rules}
+use Rattle.output.proofs.Puts.{holds_room, puts-whole}
+use Rattle.log_parser.proofs.Responding.{response-log, response-error}
 use Rattle.log_parser.proofs.response.respond.Goals as goal
 
-pub returns-in-Log : goal.returns-in-Log
-returns-in-Log c = response-log _ _ c.if-buf-lt-LONGEST_LOG.false _ _ c.in-Log.ensures
+pub returns-in-Ok : goal.returns-in-Ok
+returns-in-Ok c = response-log _ _ c.if-buf-lt-LONGEST_LOG.false _ _ c.in-Ok.ensures
 
-pub returns-in-NoRoom : goal.returns-in-NoRoom
-returns-in-NoRoom c = response_none _ _ c.if-buf-lt-LONGEST_LOG.false _ c.in-NoRoom.ensures
+pub refusal_line-requires : goal.refusal_line-requires
+refusal_line-requires c = holds_room _ c.new-out.ensures.empty (omega (arith, c.if-buf-lt-LONGEST_LOG.false))
+
+pub returns-in-Err : goal.returns-in-Err
+returns-in-Err c =
+    let line = c.refusal_line.ensures in
+    response-error _ _ c.if-buf-lt-LONGEST_LOG.false _ _ c.in-Err.ensures (puts-whole line.0 c.new-out.ensures.empty (search rules))
+    (omega (arith, line.1, c.new-out.ensures.empty.place))

@@ -1,6 +1,7 @@
--- `is_same` meets its contract: the test is true exactly where the words are equal.
-use Rattle.text.proofs.Sameness.{same_test}
+-- `is_same` meets its contract: the words are compared byte by byte.
+use Rattle.std.proofs.Common.{◌∙◌}
+use Rattle.text.proofs.Sameness.{same_pointwise}
 use Rattle.text.proofs.words.is_same.Goals as goal
 
 pub returns : goal.returns
-returns c = same_test _ _ _ c.same.ensures
+returns c = c.eq.ensures ∙ same_pointwise _ _

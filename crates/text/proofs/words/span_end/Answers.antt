@@ -1,15 +1,11 @@
--- `span_end` meets its contract: the bytes passed are of the class.
-use Rattle.std.proofs.Common.{sym, ◌∙◌}
-use Rattle.text.proofs.Spans.{span_more, span_stop, span_past}
+-- `span_end` meets its contract: the bytes from the place on, if there are any.
+use Rattle.std.proofs.Common.{arith}
+use Rattle.text.proofs.Spans.{span-most, span_past}
 use Rattle.text.proofs.words.span_end.Goals as goal
 
-pub returns-then-not-is_in : goal.returns-then-not-is_in
-returns-then-not-is_in c =
-    sym (c.loop-i.invariant ∙ span_stop _ _ _ c.loop-i-test.true (sym c.is_in.ensures ∙ c.if-not-is_in.true))
+pub overflow_add-result : goal.overflow_add-result
+overflow_add-result c =
+    omega (arith, c.in-Some.ensures.lookup, c.span_length.ensures, span-most c.args.class c.in-Some.rest.now)
 
-pub loop-i-preserved : goal.loop-i-preserved
-loop-i-preserved c =
-    c.loop-i.invariant ∙ span_more _ _ _ c.loop-i-test.true (sym c.is_in.ensures ∙ c.if-not-is_in.false)
-
-pub returns : goal.returns
-returns c = sym (c.loop-i.invariant ∙ span_past _ _ _ c.loop-i-test.false)
+pub returns-in-None : goal.returns-in-None
+returns-in-None c = span_past _ _ _ (omega (arith, c.in-None.ensures.lookup))
