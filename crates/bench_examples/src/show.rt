@@ -1,6 +1,8 @@
-// What is written: numbers, woken tasks, queues, block lists and bytes.
+// What is written: numbers, woken tasks, queues, block lists and bytes, by io, which goes on where standard output is gone.
 use layout::header;
-use model::{Answer, Attributes, Entry, FOREVER, LOWEST_PRIORITY, Queue, Totals, Woken};
+use model::{
+    Answer, Attributes, Entry, FOREVER, HeaderPlace, LOWEST_PRIORITY, Queue, Totals, Woken,
+};
 
 pub fn text(s: &str) {
     io::write_all(1, s.as_bytes());
@@ -104,15 +106,16 @@ pub fn queue(queue: Queue) {
 // The size and the owner of each block, from 0 on.
 fn blocks(pool: &[u8]) {
     let mut rest = pool;
+    // from header to header, by the size of each
     while 8 <= rest.len() {
-        let size = header::read_u32(rest, 0);
-        number(size);
+        let header = header::read_header(rest, HeaderPlace(0));
+        number(header.size);
         text(":");
-        io::print_decimal(1, header::read_u32(rest, 4) as u64);
-        if size < 8 || rest.len() < size {
+        io::print_decimal(1, header.owner as u64);
+        if header.size < 8 || rest.len() < header.size {
             return;
         }
-        rest = &rest[size..];
+        rest = &rest[header.size..];
     }
 }
 

@@ -2,7 +2,7 @@
 use crate::{script, show};
 use model::{Attributes, DEFAULTS, LOWEST_PRIORITY, Queue};
 
-// Examples whose state others begin with.
+// Examples whose state others begin with: values and no functions, since a function as a parameter is asked to be callable by a clause.
 #[derive(Clone, Copy)]
 pub enum Example {
     B,

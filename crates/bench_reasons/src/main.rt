@@ -31,7 +31,7 @@ fn run(records: &[u8], order: u16, pool: &mut [u8]) {
     }
 }
 
-// A log that is not too long.
+// A log that is not too long, begun as `stages` does, but for the lines that it writes.
 fn replay(log: &[u8]) {
     let Some(start) = call_log::read_start(log) else {
         return;

@@ -41,6 +41,7 @@ fn line(code: i32, length: usize) {
     let mut text = [0u8; 64];
     let mut out = Output::new(&mut text);
     transcript::answer_line(&mut out, code, length);
+    // the output has to be gone before its text is read
     let size = out.end;
     io::write_all(1, &text[..size]);
 }

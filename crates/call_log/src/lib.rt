@@ -19,7 +19,7 @@ pub enum Record {
     // task
     Cancel(u32),
     Tick,
-    // a get and a poll with a priority: task, size, limit, priority; task, size, priority
+    // a get and a poll with a priority, which are kinds of their own in a log: task, size, limit, priority; task, size, priority
     PriorityGet(u32, u32, i32, u32),
     PriorityPoll(u32, u32, u32),
 }
@@ -111,7 +111,7 @@ pub fn read_record(rest: &[u8]) -> Result<Option<Taken>, BadRecord>
     Ok(Some(Taken { record, size }))
 }
 
-// The kind of a number.
+// The kind of a number: no TryFrom, since `Unknown` is a kind too.
 pub fn kind_of(number: u32) -> Kind
     ensures { result ≡ kind_of number }
 {
@@ -157,7 +157,7 @@ fn record_from(kind: Kind, fields: [u32; 4]) -> Option<Record>
     }
 }
 
-// The limit of a get, from its field.
+// The limit of a get, from its field; below the other way. No From, since a field above 2^31 has no limit.
 pub fn limit_of(field: u32) -> i32
     requires { field ≤ limit_bound }
     ensures { result ≡ limit_of field }

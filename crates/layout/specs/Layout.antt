@@ -7,6 +7,7 @@ use Rattle.model.specs.Blocks.{Block, block, is_free, total, ok_block, tiled, ho
 use Rattle.model.specs.Bytes.{u32_at, blocks_of, header, overlay, written, render, erase}
 use Rattle.model.specs.Rules.{ok_long}
 use Rattle.model.specs.Calls.{offset_of}
+use Rattle.layout.specs.declared.header.Header.{Header}
 use Rattle.layout.specs.declared.Target.{Target}
 use Rattle.layout.specs.declared.Target.TheVariants as target
 use Rattle.layout.specs.declared.Spot.{Spot}
@@ -21,6 +22,11 @@ use Rattle.layout.specs.declared.Survey.{Survey}
 pub record Read (bytes : List ℕ) (at r : ℕ) : Type 0 where
   pub is : r ≡ u32_at bytes at
   pub small : r < 4294967296
+
+-- the header read at a place: its size, and behind that its owner
+pub record ReadHeader (bytes : List ℕ) (at : ℕ) (h : Header) : Type 0 where
+  pub size : Read bytes at h.size
+  pub owner : Read bytes (at + 4) h.owner
 
 -- the bytes xs at the place p, every other byte kept
 unfoldable pub put : ℕ → List ℕ → List ℕ → List ℕ

@@ -29,12 +29,16 @@ fn swallow(s: &mut [u8], at: usize) -> usize
     requires { at < length s.old → at + 8 ≤ length s.old }
     ensures { swallowed result s.new ≡ swallow_of at s.old }
 {
-    if s.len() <= at || header::read_u32(s, at + 4) != 0 {
+    if s.len() <= at {
         return 0;
     }
-    let size = header::read_u32(s, at);
-    header::write_header(s, HeaderPlace(at), 0, 0);
-    size
+    let place = HeaderPlace(at);
+    let header = header::read_header(s, place);
+    if header.owner != 0 {
+        return 0;
+    }
+    header::write_header(s, place, 0, 0);
+    header.size
 }
 
 // Frees the live block that was found: it joins a free block behind it, then one before it, and their headers become zero. Answers the size of

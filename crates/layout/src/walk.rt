@@ -5,56 +5,61 @@ ghost use Rattle.model.specs.Blocks.{block, ok_block};
 ghost use Rattle.model.specs.Bytes.{blocks_of};
 ghost use Rattle.layout.specs.Layout.{may_stand, wanted, pass, walk_at, need_of, byte_of, spot_of, survey_of, sound_pool, first_fit_of};
 
-use crate::{Seen, Spot, Stop, Survey, Target, header};
+use crate::header::{self, Header};
+use crate::{Seen, Spot, Stop, Survey, Target};
 use model::{HeaderPlace, LONGEST_POOL, TASKS};
 
-// Whether a header may stand in a pool. Whether the block ends within the pool shows when the walk ends.
-fn is_block(size: usize, owner: usize) -> bool
-    ensures { result ≡ ok_block most_tasks (block size owner) }
-{
-    size % 4 == 0 && 12 <= size && owner <= TASKS
-}
-
-// Whether a header may stand behind what was seen: no free block follows a free one. The owner is tested first, so that the compiled walk
-// branches on it once.
-fn may_stand(seen: Seen, size: usize, owner: usize) -> bool
-    ensures { result ≡ may_stand seen (block size owner) }
-{
-    if owner == 0 && seen.free < seen.at {
-        return false;
+impl Header {
+    // Whether it may stand in a pool. Whether the block ends within the pool shows when the walk ends.
+    fn is_block(self) -> bool
+        ensures { result ≡ ok_block most_tasks (block self.size self.owner) }
+    {
+        self.size % 4 == 0 && 12 <= self.size && self.owner <= TASKS
     }
-    is_block(size, owner)
+
+    // Whether it may stand behind what was seen: no free block follows a free one. The owner is tested first, so that the compiled walk branches
+    // on it once.
+    fn may_stand(self, seen: Seen) -> bool
+        ensures { result ≡ may_stand seen (block self.size self.owner) }
+    {
+        if self.owner == 0 && seen.free < seen.at {
+            return false;
+        }
+        self.is_block()
+    }
+
+    // Whether its block at a place is one sought: a free block of at least `need` bytes, or one that ends past `byte`.
+    fn is_wanted(self, need: usize, byte: usize, at: usize) -> bool
+        requires { at + self.size < 18446744073709551616 }
+        ensures { result ≡ wanted need byte at (block self.size self.owner) }
+    {
+        let end = at + self.size;
+        (self.owner == 0 && need <= self.size) || byte < end
+    }
 }
 
-// Whether a block at a place is one sought: a free block of at least `need` bytes, or one that ends past `byte`.
-fn is_wanted(need: usize, byte: usize, at: usize, size: usize, owner: usize) -> bool
-    requires { at + size < 18446744073709551616 }
-    ensures { result ≡ wanted need byte at (block size owner) }
-{
-    let end = at + size;
-    (owner == 0 && need <= size) || byte < end
-}
-
-// What is seen once a block is passed.
-fn passed(seen: Seen, size: usize, owner: usize) -> Seen
-    requires { (8 ≤ size) × (seen.sum ≤ seen.at) × (seen.at + size < 18446744073709551616) }
-    ensures { result ≡ pass (block size owner) seen }
-{
-    let at = seen.at;
-    let next = at + size;
-    if owner != 0 {
-        return Seen {
+impl Seen {
+    // What is seen once a block is passed.
+    fn passed(self, header: Header) -> Seen
+        requires { (8 ≤ header.size) × (self.sum ≤ self.at) × (self.at + header.size < 18446744073709551616) }
+        ensures { result ≡ pass (block header.size header.owner) self }
+    {
+        let at = self.at;
+        let next = at + header.size;
+        if header.owner != 0 {
+            return Seen {
+                at: next,
+                free: next,
+                ..self
+            };
+        }
+        let room = header.size - 8;
+        Seen {
             at: next,
-            free: next,
-            ..seen
-        };
-    }
-    let room = size - 8;
-    Seen {
-        at: next,
-        free: at,
-        greatest: seen.greatest.max(room),
-        sum: seen.sum + room,
+            free: at,
+            greatest: self.greatest.max(room),
+            sum: self.sum + room,
+        }
     }
 }
 
@@ -71,19 +76,18 @@ fn walk_from(s: &[u8], need: usize, byte: usize, mut seen: Seen) -> Option<Stop>
         if last < seen.at {
             break (seen.at == n).then_some(Stop::End(seen));
         }
-        let size = header::read_u32(s, seen.at);
-        let owner = header::read_u32(s, seen.at + 4);
-        if !may_stand(seen, size, owner) {
+        let header = header::read_header(s, HeaderPlace(seen.at));
+        if !header.may_stand(seen) {
             break None;
         }
-        if is_wanted(need, byte, seen.at, size, owner) {
+        if header.is_wanted(need, byte, seen.at) {
             break Some(Stop::Here(seen));
         }
-        seen = passed(seen, size, owner);
+        seen = seen.passed(header);
     }
 }
 
-// No block of a pool has this size, and none ends past that byte.
+// No block of a pool has this size, and none ends past that byte: the loop tests two numbers and no target.
 const NO_NEED: usize = LONGEST_POOL + 1;
 
 const NO_BYTE: usize = LONGEST_POOL;

@@ -4,6 +4,7 @@
 use log_parser::response;
 use log_text::{LONGEST_LOG, LONGEST_TEXT};
 
+// A function of its own: in `main` the proof does not get past the million zeros of the text.
 fn convert(text: &mut [u8], log: &mut [u8]) {
     let n = io::read_full(0, text);
     let length = response::respond(&text[..n], log);

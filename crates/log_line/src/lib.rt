@@ -21,7 +21,7 @@ struct Argument {
     next: usize,
 }
 
-// The next line of a text, behind `count` records.
+// The next line of a text, behind `count` records; `begun`, here and below, says that the pool line was taken (`line_of`).
 pub fn line_after(line: &[u8], begun: bool, count: usize) -> Result<Line, Why>
     ensures { result ≡ limited count (line_of begun (words_of line.now)) }
 {
@@ -155,6 +155,7 @@ fn order_with(argument: u64) -> u16
     }
 }
 
+// A get with a priority or without, by an argument; below a poll, which has no limit.
 fn get_with(task: u32, size: u32, limit: u64, priority: u64) -> Record
     requires { (limit ≤ limit_bound) × (priority ≤ 4294967296) }
     ensures { result ≡ get_with task size (limit_of limit) priority }

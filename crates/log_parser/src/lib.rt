@@ -92,7 +92,7 @@ fn write_line(out: &mut Output, said: Line)
     }
 }
 
-// How many bytes that has.
+// How many bytes that has. log_printer has one too: over both it would take the space as a parameter and the writing as a closure.
 fn line_length(said: Line) -> usize
     requires { length (line_bytes said) ≤ 21 }
     ensures { result ≡ length (line_bytes said) }

@@ -9,7 +9,7 @@ use log_text::{LONGEST_LOG, Why};
 use output::Output;
 
 // Writes the log that a text says, or one line that says why there is none, at the start of buf, and answers the place after it. Where buf has fewer than
-// LONGEST_LOG bytes, nothing is written.
+// LONGEST_LOG bytes, nothing is written. log_printer's is like it: over both it would take the bound, the writing and the line as parameters.
 pub fn respond(text: &[u8], buf: &mut [u8]) -> usize
     ensures { Responded (response_for text.now buf.old) buf.old buf.new result }
 {

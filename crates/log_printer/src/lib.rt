@@ -71,7 +71,7 @@ fn measure(log: &[u8], place: usize, first: usize) -> Result<usize, PrintError>
     Ok(length)
 }
 
-// How many bytes a line has.
+// How many bytes a line has, as in log_parser.
 fn line_length(parts: Parts) -> usize
     requires { length (parts_text parts) ≤ longest_line }
     ensures { result ≡ length (parts_text parts) }
@@ -102,7 +102,7 @@ fn pool_parts(n: u32, order: u16) -> Parts
     make_parts(Keyword::Pool, n, u32::from(order), 0, 0)
 }
 
-// The line of a record.
+// The line of a record, here and not with its type, which knows no text.
 fn parts_of(item: Record) -> Parts
     ensures { result ≡ parts_of item }
 {

@@ -12,7 +12,7 @@ use output::Output;
 pub const LONGEST_PRINTED: usize = 258111;
 
 // Writes the text of a log, or one line that says why there is none, at the start of buf, and answers the place after it. Where buf has fewer than
-// LONGEST_PRINTED bytes, nothing is written.
+// LONGEST_PRINTED bytes, nothing is written. It is like log_parser's.
 pub fn respond(log: &[u8], buf: &mut [u8]) -> usize
     ensures { Responded (response_for log.now buf.old) buf.old buf.new result }
 {

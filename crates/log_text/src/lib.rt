@@ -63,7 +63,7 @@ pub enum Line {
 }
 
 // A line as its first word and an argument for each slot, then zeros. The argument of a number is the number, and that of an
-// option is 0 where it is not there, else its number plus 1, or 1 where it has none.
+// option is 0 where it is not there, else its number plus 1, as a log has a limit (`option_words`, `take_slots`), or 1 where it has none.
 #[derive(Clone, Copy)]
 pub struct Parts {
     pub keyword: Keyword,

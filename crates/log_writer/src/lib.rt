@@ -116,6 +116,7 @@ impl From<Record> for Row {
 }
 
 impl Row {
+    // By the number of the kind, as `row_of` has it.
     fn new(kind: u32, first: u32, second: u32, limit: i32, priority: u32) -> Row
         ensures { result ≡ row kind first second limit priority }
     {

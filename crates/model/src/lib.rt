@@ -61,7 +61,8 @@ pub struct Entry {
     pub left: u32,
 }
 
-// The ticks left of a wait without a limit, and the most of a limited one: one more than the greatest limit.
+// The ticks left of a wait without a limit, a number like the others in an entry (`ok_left`), and the most of a limited one: one more than the greatest
+// limit.
 pub const FOREVER: u32 = 4294967295;
 
 pub const LONGEST_LEFT: u32 = 2147483648;

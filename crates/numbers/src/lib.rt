@@ -59,6 +59,7 @@ pub fn read_number(s: &[u8]) -> Option<Number>
 pub fn number_length(v: u32) -> usize
     ensures { result ≡ length (encode v) }
 {
+    // a byte for each seven bits, as they are written
     let mut n = v;
     let mut count = 1;
     while 128 <= n {

@@ -4,7 +4,7 @@
 ghost use Rattle.std.specs.Prelude.{◌≡◌, [], ◌∷◌, length};
 ghost use Rattle.output.specs.Puts.{Room, Puts, Holds};
 
-// A lent buffer, and the place behind the bytes that were written.
+// A lent buffer, and the place behind the bytes that were written. Any place may be given, also past the buffer: `Room` is asked where bytes are written.
 #[derive(Drop)]
 pub struct Output<'a> {
     pub buffer: &'a mut [u8],

@@ -29,10 +29,11 @@ pub fn create(pool: &mut [u8], attributes: Attributes) -> Answer
         return state::deny(CallError::Parameter, state::empty(DEFAULTS));
     }
     header::write_header(pool, HeaderPlace(0), n, 0);
+    // with the code of what is done, an answer is what a refusal is: nobody woken, no offset
     state::refuse(0, state::empty(attributes))
 }
 
-// The tests of a get but for the last, which refuses a poll: the run that was found for it, and how long it may wait.
+// The tests of a get but for the last, which refuses a poll: the run that was found for it, and how long it may wait. Its numbers go as the call has them.
 fn check_get(
     pool: &[u8],
     queue: &Queue,
@@ -74,6 +75,7 @@ pub fn get(pool: &mut [u8], queue: Queue, task: u32, size: u32, limit: i32, prio
         size,
         left: time_of(wait),
     };
+    // the limit itself tells a poll: of `wait == Limit::Poll` the proof learns nothing
     request::admit(pool, queue, e, limit == 0, found)
 }
 

@@ -25,8 +25,7 @@ pub fn check_offset(pool: &[u8], offset: BlockOffset, spot: Spot) -> Result<(), 
     if offset != header::offset_of(place) {
         return Err(Misplaced::InsideBlock(place));
     }
-    let owner = header::read_u32(pool, place.0 + 4);
-    if owner == 0 {
+    if header::read_header(pool, place).owner == 0 {
         return Err(Misplaced::AlreadyFree(place));
     }
     Ok(())

@@ -145,7 +145,7 @@ pub fn find(entries: [Entry; TASKS], task: u32) -> Option<usize>
         .position(|e| u32::from(e.task) == task)
 }
 
-// ---- who joins and who leaves
+// ---- who joins and who leaves: any entries may be handed in, so it is asked of them, and no type says it, that they are tidy
 
 // The first place that is unused or of a rank above `own`. Unrolled in `join`, the search would have the queue copied field by field.
 #[inline(never)]

@@ -12,7 +12,7 @@ use layout::{Spot, change, header};
 use model::{Answer, Attributes, BlockOffset, CallError, Entry, Queue, TASKS, WAITING};
 use queue::Limit;
 
-// Whether a size and a priority may be asked of a pool of `n` bytes.
+// Whether a size and a priority may be asked of a pool of `n` bytes: of a call's numbers, which no entry holds yet.
 fn is_allowed(attributes: Attributes, n: usize, size: u32, priority: u32) -> bool
     ensures { result ≡ ok_size (most_asked attributes n) size && ok_priority priority }
 {

@@ -34,6 +34,7 @@ fn play(log: &[u8], mut rest: Rest, pool: &mut [u8], out: &mut Output) -> Option
     requires { Ready log.now out.old rest }
     ensures { Played log.now rest pool.old out.old pool.new out.new result }
 {
+    // by the place of a record, which the last line tells
     while out.end <= TEXT_SPACE - LONGEST_STEP {
         let read = call_log::read_record(&log[rest.at..]);
         let Ok(Some(taken)) = read else {

@@ -13,7 +13,7 @@ use model::{
     Answer, Attributes, BlockOffset, CallError, HeaderPlace, LONGEST_POOL, Queue, TASKS, Woken,
 };
 
-// Whether create takes these attributes for a pool of `n` bytes.
+// Whether create takes these attributes for a pool of `n` bytes, a number that the attributes don't have.
 fn are_valid(attributes: Attributes, n: usize) -> bool
     ensures { result ≡ ok_attributes attributes n }
 {

@@ -5,15 +5,11 @@ use log_printer::response;
 use log_printer::response::LONGEST_PRINTED;
 use log_text::LONGEST_LOG;
 
-fn convert(log: &mut [u8], text: &mut [u8]) {
-    let n = io::read_full(0, log);
-    let length = response::respond(&log[..n], text);
-    io::write_all(1, &text[..length]);
-}
-
 // One byte more than the longest log is read, so that a longer one is known.
 fn main() {
     let mut log = [0u8; LONGEST_LOG + 1];
     let mut text = [0u8; LONGEST_PRINTED];
-    convert(&mut log, &mut text);
+    let n = io::read_full(0, &mut log);
+    let length = response::respond(&log[..n], &mut text);
+    io::write_all(1, &text[..length]);
 }

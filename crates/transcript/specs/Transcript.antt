@@ -10,7 +10,6 @@ use Rattle.model.specs.Pool.{Stored, perform, create}
 use Rattle.call_log.specs.declared.Record.{Record}
 use Rattle.call_log.specs.declared.Record.TheVariants.{Get, Poll, Release, Cancel, Tick, PriorityGet, PriorityPoll}
 use Rattle.call_log.specs.declared.Start.{Start}
-use Rattle.call_log.specs.declared.Taken.{Taken}
 use Rattle.call_log.specs.Record.{record_of}
 use Rattle.call_log.specs.Log.{start_of}
 use Rattle.transcript.specs.Lines.{pool_line, answer_line, woken_line, end_line, bad_line, refused_line, too_long_line}

@@ -1,4 +1,4 @@
-// The lines that a program writes for a log of calls.
+// The lines that a program writes for a log of calls: a function for each, as there is a definition for each.
 #![tactic(auto)]
 
 ghost use Rattle.output.specs.Puts.{Room, Puts};

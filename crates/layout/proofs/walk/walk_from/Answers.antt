@@ -14,38 +14,38 @@ least n v size owner h m =
 pub loop-seen-smaller : goal.loop-seen-smaller
 loop-seen-smaller c =
     let v = c.loop-seen.seen in
-    let g = least (length c.args.s.now) v c.read_u32-size.result c.read_u32-owner.result (omega arith) c.if-not-may_stand.ensures in
-    let e = ap (λ (w : Seen). w.at) c.passed-seen.ensures ∙ pass-at v c.read_u32-size.result c.read_u32-owner.result in
+    let g = least (length c.args.s.now) v c.read_header-header.result.size c.read_header-header.result.owner (omega arith) c.if-not-may_stand.ensures in
+    let e = ap (λ (w : Seen). w.at) c.passed-seen.ensures ∙ pass-at v c.read_header-header.result.size c.read_header-header.result.owner in
     omega (arith, g, e)
 
 pub loop-seen-preserved : goal.loop-seen-preserved
 loop-seen-preserved c =
     let s = c.args.s.now in
     let v = c.loop-seen.seen in
-    let z = c.read_u32-size in
-    let o = c.read_u32-owner in
-    let k = close_stands (length s) v (block z.result o.result) (omega arith) (sym c.if-not-may_stand.ensures) in
+    let h = c.read_header-header.result in
+    let r = c.read_header-header.ensures in
+    let k = close_stands (length s) v (block h.size h.owner) (omega arith) (sym c.if-not-may_stand.ensures) in
     rw c.passed-seen.ensures (record {
-      small = pass-sum v z.result o.result c.loop-seen.invariant.small;
-      same = c.loop-seen.invariant.same ∙ walk-pass _ _ s v z.result o.result (omega arith) z.ensures.is o.ensures.is k (sym c.if-is_wanted.ensures);
+      small = pass-sum v h.size h.owner c.loop-seen.invariant.small;
+      same = c.loop-seen.invariant.same ∙ walk-pass _ _ s v h.size h.owner (omega arith) r.size.is r.owner.is k (sym c.if-is_wanted.ensures);
     })
 
 pub returns-then-not-may_stand : goal.returns-then-not-may_stand
 returns-then-not-may_stand c =
     let s = c.args.s.now in
     let v = c.loop-seen.seen in
-    let z = c.read_u32-size in
-    let o = c.read_u32-owner in
-    sym (c.loop-seen.invariant.same ∙ walk_bad _ _ s v z.result o.result (omega arith) z.ensures.is o.ensures.is (unfit (length s) v (block z.result o.result) (sym c.if-not-may_stand.ensures)))
+    let h = c.read_header-header.result in
+    let r = c.read_header-header.ensures in
+    sym (c.loop-seen.invariant.same ∙ walk_bad _ _ s v h.size h.owner (omega arith) r.size.is r.owner.is (unfit (length s) v (block h.size h.owner) (sym c.if-not-may_stand.ensures)))
 
 pub returns-then-is_wanted : goal.returns-then-is_wanted
 returns-then-is_wanted c =
     let s = c.args.s.now in
     let v = c.loop-seen.seen in
-    let z = c.read_u32-size in
-    let o = c.read_u32-owner in
-    let k = close_stands (length s) v (block z.result o.result) (omega arith) (sym c.if-not-may_stand.ensures) in
-    sym (c.loop-seen.invariant.same ∙ walk_here _ _ s v z.result o.result (omega arith) z.ensures.is o.ensures.is k (sym c.if-is_wanted.ensures))
+    let h = c.read_header-header.result in
+    let r = c.read_header-header.ensures in
+    let k = close_stands (length s) v (block h.size h.owner) (omega arith) (sym c.if-not-may_stand.ensures) in
+    sym (c.loop-seen.invariant.same ∙ walk_here _ _ s v h.size h.owner (omega arith) r.size.is r.owner.is k (sym c.if-is_wanted.ensures))
 
 pub returns-then-last-seen : goal.returns-then-last-seen
 returns-then-last-seen c = c.then_some.ensures ∙ sym (c.loop-seen.invariant.same ∙ walk_stop _ _ c.args.s.now c.loop-seen.seen c.if-last-seen.true c.requires.0)

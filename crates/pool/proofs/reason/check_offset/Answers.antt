@@ -20,17 +20,17 @@ returns-then-ne c =
     let own : c.offset_of.result.0 ≡ c.args.spot.place.0 + 8 = ap (λ (o : BlockOffset). o.0) c.offset_of.ensures in
     sym (reason-inside c.args.pool.now c.args.offset c.requires.0 c.args.spot c.requires.1 (omega arith) c.if-is_uneven.false (λ e. eqb-false _ _ (not_t _ (sym c.ne.ensures ∙ c.if-ne.true)) (e ∙ sym own)))
 
-pub read_u32-owner-requires : goal.read_u32-owner-requires
-read_u32-owner-requires c = omega (arith, reason-room c.args.pool.now c.args.offset c.requires.0 c.args.spot c.requires.1 (omega arith))
+pub read_header-requires : goal.read_header-requires
+read_header-requires c = omega (arith, reason-room c.args.pool.now c.args.offset c.requires.0 c.args.spot c.requires.1 (omega arith))
 
-pub returns-then-owner-eq0 : goal.returns-then-owner-eq0
-returns-then-owner-eq0 c =
+pub returns-then-read_header-eq0 : goal.returns-then-read_header-eq0
+returns-then-read_header-eq0 c =
     let own : c.offset_of.result.0 ≡ c.args.spot.place.0 + 8 = ap (λ (o : BlockOffset). o.0) c.offset_of.ensures in
     sym (reason-free c.args.pool.now c.args.offset c.requires.0 c.args.spot c.requires.1 (omega arith) c.if-is_uneven.false (eqb-true _ _ (not_f _ (sym c.ne.ensures ∙ c.if-ne.false)) ∙ own)
-    c.read_u32-owner.result c.read_u32-owner.ensures.is c.if-owner-eq0.true)
+    c.read_header.result.owner c.read_header.ensures.owner.is c.if-read_header-eq0.true)
 
 pub returns : goal.returns
 returns c =
     let own : c.offset_of.result.0 ≡ c.args.spot.place.0 + 8 = ap (λ (o : BlockOffset). o.0) c.offset_of.ensures in
     sym (reason-live c.args.pool.now c.args.offset c.requires.0 c.args.spot c.requires.1 (omega arith) c.if-is_uneven.false (eqb-true _ _ (not_f _ (sym c.ne.ensures ∙ c.if-ne.false)) ∙ own)
-    c.read_u32-owner.result c.read_u32-owner.ensures.is c.if-owner-eq0.false)
+    c.read_header.result.owner c.read_header.ensures.owner.is c.if-read_header-eq0.false)
