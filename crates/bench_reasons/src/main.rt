@@ -5,6 +5,7 @@
 use call_log::LONGEST_LOG;
 use model::{Attributes, DEFAULTS, HeaderPlace, LONGEST_POOL, Queue};
 
+// By io and not `println!`, which ends the program where standard output is gone.
 fn line(reason: u32, place: HeaderPlace) {
     io::print_decimal(1, u64::from(reason));
     io::write_all(1, b" ");
@@ -31,7 +32,8 @@ fn run(records: &[u8], order: u16, pool: &mut [u8]) {
     }
 }
 
-// A log that is not too long, begun as `stages` does, but for the lines that it writes.
+// A log that is not too long, begun as `stages` does, but for the lines that it writes. One function for both would be
+// handed what it does with an answer, and `stages` promises the whole text.
 fn replay(log: &[u8]) {
     let Some(start) = call_log::read_start(log) else {
         return;

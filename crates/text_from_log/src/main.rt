@@ -6,6 +6,7 @@ use log_printer::response::LONGEST_PRINTED;
 use log_text::LONGEST_LOG;
 
 // One byte more than the longest log is read, so that a longer one is known.
+// The calls of `log_from_text`: one function for both would take the step between as a parameter, for three lines.
 fn main() {
     let mut log = [0u8; LONGEST_LOG + 1];
     let mut text = [0u8; LONGEST_PRINTED];
