@@ -42,7 +42,9 @@ fn check_get(
     limit: i32,
     priority: u32,
 ) -> Result<(Option<Spot>, Limit), CallError>
-    ensures { MatchResult result (λ r. Requested pool.now queue.now (request task size limit priority) r.0 r.1) (λ e. verdict_in (calls.get (request task size limit priority)) pool.now queue.now ≡ some (refusal_of e)) }
+    ensures { MatchResult result
+        (λ r. Requested pool.now queue.now (request task size limit priority) r.0 r.1)
+        (λ e. verdict_in (calls.get (request task size limit priority)) pool.now queue.now ≡ some (refusal_of e)) }
 {
     let need = sizes::need(queue.attributes, size);
     let seen = state::inspect(pool, *queue, Target::Run(need))?;
@@ -92,7 +94,9 @@ fn check_release(
     queue: &Queue,
     offset: BlockOffset,
 ) -> Result<(Spot, usize), CallError>
-    ensures { MatchResult result (λ r. Freeable pool.now queue.now offset r.0 r.1) (λ e. verdict_in (calls.release offset) pool.now queue.now ≡ some (refusal_of e)) }
+    ensures { MatchResult result
+        (λ r. Freeable pool.now queue.now offset r.0 r.1)
+        (λ e. verdict_in (calls.release offset) pool.now queue.now ≡ some (refusal_of e)) }
 {
     let seen = state::inspect(pool, *queue, Target::Holder(offset))?;
     let spot = seen.found.ok_or(Misplaced::OutOfRange)?;
@@ -116,7 +120,9 @@ pub fn release(pool: &mut [u8], queue: Queue, offset: BlockOffset) -> Answer
 
 // The tests of a cancel: the place of the task's entry, and the greatest free run.
 fn check_cancel(pool: &[u8], queue: &Queue, task: u32) -> Result<(usize, usize), CallError>
-    ensures { MatchResult result (λ r. Cancellable pool.now queue.now task r.0 r.1) (λ e. verdict_in (calls.cancel task) pool.now queue.now ≡ some (refusal_of e)) }
+    ensures { MatchResult result
+        (λ r. Cancellable pool.now queue.now task r.0 r.1)
+        (λ e. verdict_in (calls.cancel task) pool.now queue.now ≡ some (refusal_of e)) }
 {
     let seen = state::inspect(pool, *queue, Target::Nothing)?;
     if !queue::is_task(task) {
