@@ -1,14 +1,16 @@
 -- The loop of `read_record`: the fields read so far, in front of those that are left. Assumes nothing.
 use Prim.Native.Nat.{ℕ, zero, suc, ◌+◌, ◌-◌, ◌<◌, ◌≤◌}
-use mathlib.Core.Path.{◌≡◌, refl, ◌∙◌}
+use mathlib.Core.Path.{◌≡◌, refl, sym, ◌∙◌}
 use mathlib.Core.List.{List, [], ◌∷◌, ◌++◌, append-nil}
+use mathlib.Core.Logic.{⊎_elim}
 use native.Mathlib.Omega.{arith}
 use native.Mathlib.Nat.{add-zero, sub-zero}
 use native.Mathlib.Numerals.{add-one}
-use lib.ListN.{length, take, drop, get_or, set, replicate, length-set, length-drop}
-use lib.Seq.{take_all, take-suc-set, drop-drop, get_or-drop}
+use lib.ListN.{length, take, drop, get_or, set, replicate, length-set, length-drop, length-take, get_or-eq_default}
+use lib.Seq.{take_all, take-suc-set, drop-drop, get_or-drop, get_or-take}
 use Rattle.std.specs.Prelude.{None, Ok, Err, IsErr}
 use Rattle.numbers.specs.Number.{number, number_of}
+use Rattle.numbers.proofs.Decode.{side}
 use Rattle.numbers.proofs.Theorems.{number_within}
 use Rattle.call_log.specs.declared.Kind.{Kind}
 use Rattle.call_log.specs.declared.Record.{Record}
@@ -35,6 +37,13 @@ get_or_padded (f ∷ fs) zs zeros (suc j) = get_or_padded fs zs zeros j
 
 abbrev pub padded : ℕ → List ℕ → List ℕ
 padded n fs = fs ++ drop n (0 ∷ 0 ∷ 0 ∷ 0 ∷ [])
+
+-- the first i elements, where the others are zeros
+pub get_or_taken : (fs : List ℕ) (i : ℕ) → ((j : ℕ) → i ≤ j → get_or fs j 0 ≡ 0) → (j : ℕ) → get_or (take i fs) j 0 ≡ get_or fs j 0
+get_or_taken fs i zeros j = ⊎_elim (get_or-take i fs j 0) past (side j i)
+  where
+    past : i ≤ j → get_or (take i fs) j 0 ≡ get_or fs j 0
+    past h = get_or-eq_default (take i fs) 0 (rw (length-take i fs) (omega arith)) ∙ sym (zeros j h)
 
 -- the list of the part &s[a..]
 pub suffix : (a : ℕ) (s : List ℕ) → take (length s - a) (drop a s) ≡ drop a s

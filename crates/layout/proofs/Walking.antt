@@ -59,7 +59,7 @@ module _ (n : ℕ) (v : Seen) (b : Block) where
 -- ---- the walk over bytes
 
 module _ (need byte : ℕ) (s : List ℕ) (v : Seen) where
-  walk_end : v.at ≡ length s → walk_at need byte s v ≡ Some (End v)
+  pub walk_end : v.at ≡ length s → walk_at need byte s v ≡ Some (End v)
   unfolding walk
   walk_end h = ap (walk need byte (length s) v) (blocks_end v.at s (omega arith)) ∙ rw (eq-eqb v.at (length s) h)
 
@@ -86,7 +86,7 @@ module _ (need byte : ℕ) (s : List ℕ) (v : Seen) where
       unfolding walk pass
       walk-pass w = ap (walk need byte (length s) v) ahead ∙ rw (e, w)
 
-  walk-short : (v.at ≡ length s → ⊥) → length s - 12 < v.at → 12 ≤ length s → walk_at need byte s v ≡ None
+  pub walk-short : (v.at ≡ length s → ⊥) → length s - 12 < v.at → 12 ≤ length s → walk_at need byte s v ≡ None
   unfolding walk
   walk-short ne k m =
       by (ltb v.at (length s))

@@ -1,15 +1,13 @@
 -- The loop of `read_slots`: the arguments taken so far, in front of those that are left. Assumes nothing.
 use Prim.Native.Nat.{ℕ, ◌+◌, ◌<◌, ◌≤◌}
 use mathlib.Core.Path.{◌≡◌, refl, sym, ap, ◌∙◌}
-use mathlib.Core.Logic.{⊎_elim}
 use mathlib.Core.List.{List, [], ◌∷◌, ◌++◌, append_assoc, append-nil}
 use native.Mathlib.Omega.{arith}
 use native.Mathlib.Numerals.{add-one}
-use lib.ListN.{length, take, drop, get_or, set, replicate, length-set, length-take, get_or-eq_default, drop_of_length-le}
-use lib.Seq.{take-suc-set, get_or-set_other, get_or-take, drop-cons}
+use lib.ListN.{length, take, drop, get_or, set, replicate, length-set, drop_of_length-le}
+use lib.Seq.{take-suc-set, get_or-set_other, drop-cons}
 use Rattle.std.specs.Prelude.{Ok, Err}
-use Rattle.numbers.proofs.Decode.{side}
-use Rattle.call_log.proofs.Reading.{get_or-zeros}
+use Rattle.call_log.proofs.Reading.{get_or-zeros, get_or_taken}
 use Rattle.text.specs.Words.{words_in}
 use Rattle.log_text.specs.declared.Keyword.{Keyword}
 use Rattle.log_text.specs.declared.Slot.TheVariants.{Number}
@@ -26,13 +24,6 @@ before-nil (Err why) = refl
 before-before : (us vs : List ℕ) (x : Arguments) → before us (before vs x) ≡ before (us ++ vs) x
 before-before us vs (Ok (ts, ws)) = rw (append_assoc us vs ts)
 before-before us vs (Err why) = refl
-
--- the first i elements, where the others are zeros
-get_or_taken : (fs : List ℕ) (i : ℕ) → ((j : ℕ) → i ≤ j → get_or fs j 0 ≡ 0) → (j : ℕ) → get_or (take i fs) j 0 ≡ get_or fs j 0
-get_or_taken fs i zeros j = ⊎_elim (get_or-take i fs j 0) past (side j i)
-  where
-    past : i ≤ j → get_or (take i fs) j 0 ≡ get_or fs j 0
-    past h = get_or-eq_default (take i fs) 0 (rw (length-take i fs) (omega arith)) ∙ sym (zeros j h)
 
 -- a line by the arguments at each place
 made-same : (k : Keyword) (us vs : List ℕ) (ws : List (List ℕ)) → ((i : ℕ) → get_or us i 0 ≡ get_or vs i 0) → made k (Ok (us, ws)) ≡ made k (Ok (vs, ws))

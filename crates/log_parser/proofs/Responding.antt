@@ -68,11 +68,11 @@ module _ (text buf : List ℕ) (room : longest_log ≤ length buf) (after : List
       rw same d.2
 
   module _ {last : List ℕ} {end : ℕ} where
-    response-refused : (a : Result ℕ ParseError) → refuses a ≡ true → outcome a after ≡ parse_text text buf → Wrote after 0 (refusal_line a) last end → end ≤ 64
+    pub response-refused : (a : Result ℕ ParseError) → refuses a ≡ true → outcome a after ≡ parse_text text buf → Wrote after 0 (refusal_line a) last end → length (refusal_line a) ≤ longest_log
         → Responded (response_for text buf) buf last end
-    response-refused a k e w h = responded_refused (told text) (Err NoRoom) refusal_line buf room a after k e w (omega (arith, w.place))
+    response-refused a k e w h = responded_refused (told text) (Err NoRoom) refusal_line buf room a after k e w h
 
-    response_none : outcome (Err NoRoom) after ≡ parse_text text buf → Responded (response_for text buf) buf last end
+    pub response_none : outcome (Err NoRoom) after ≡ parse_text text buf → Responded (response_for text buf) buf last end
     response_none e =
         let d = responded_done (told text) (Err NoRoom) refusal_line buf room (Err NoRoom) after refl e in
         let size = d.1 in
@@ -80,6 +80,6 @@ module _ (text buf : List ℕ) (room : longest_log ≤ length buf) (after : List
 
     pub response-error : (a : ParseError) → outcome (Err a) after ≡ parse_text text buf → Wrote after 0 (refusal_line (Err a)) last end → end ≤ 64
         → Responded (response_for text buf) buf last end
-    response-error (Refused k why) e w h = response-refused (Err (Refused k why)) refl e w h
-    response-error TooLong e w h = response-refused (Err TooLong) refl e w h
+    response-error (Refused k why) e w h = response-refused (Err (Refused k why)) refl e w (omega (arith, w.place, h))
+    response-error TooLong e w h = response-refused (Err TooLong) refl e w (omega (arith, w.place, h))
     response-error NoRoom e w h = response_none e

@@ -57,14 +57,15 @@ module _ (log buf : List ℕ) (room : longest_printed ≤ length buf) (after : L
       rw same d.2
 
   module _ {last : List ℕ} {end : ℕ} where
-    response-refused : (a : Result ℕ PrintError) → refuses a ≡ true → outcome a after ≡ print_log log buf → Wrote after 0 (refusal_line a) last end → end ≤ 64 → Responded (response_for log buf) buf last end
-    response-refused a k e w h = responded_refused (told log) (Err NoRoom) refusal_line buf room a after k e w (omega (arith, w.place))
+    pub response-refused : (a : Result ℕ PrintError) → refuses a ≡ true → outcome a after ≡ print_log log buf → Wrote after 0 (refusal_line a) last end → length (refusal_line a) ≤ longest_printed
+        → Responded (response_for log buf) buf last end
+    response-refused a k e w h = responded_refused (told log) (Err NoRoom) refusal_line buf room a after k e w h
 
-    response_none : outcome (Err NoRoom) after ≡ print_log log buf → Responded (response_for log buf) buf last end
+    pub response_none : outcome (Err NoRoom) after ≡ print_log log buf → Responded (response_for log buf) buf last end
     response_none e = let d = responded_done (told log) (Err NoRoom) refusal_line buf room (Err NoRoom) after refl e in let size = d.1 in let z : ◌≡◌ {A = ℕ} 0 1 = cc in absurd (omega arith)
 
     pub response-error : (a : PrintError) → outcome (Err a) after ≡ print_log log buf → Wrote after 0 (refusal_line (Err a)) last end → end ≤ 64 → Responded (response_for log buf) buf last end
-    response-error (Bad at) e w h = response-refused (Err (Bad at)) refl e w h
-    response-error TooMany e w h = response-refused (Err TooMany) refl e w h
-    response-error TooLong e w h = response-refused (Err TooLong) refl e w h
+    response-error (Bad at) e w h = response-refused (Err (Bad at)) refl e w (omega (arith, w.place, h))
+    response-error TooMany e w h = response-refused (Err TooMany) refl e w (omega (arith, w.place, h))
+    response-error TooLong e w h = response-refused (Err TooLong) refl e w (omega (arith, w.place, h))
     response-error NoRoom e w h = response_none e
