@@ -8,66 +8,21 @@ use native.Mathlib.Omega.{arith}
 use native.Mathlib.Nat.{add-zero, zero-add, mul-add, mul_assoc, mul-le-mul, mul-le-mul_left, pow-suc, pow-le-pow_right}
 use native.Mathlib.Numerals.{add-one}
 use lib.Dec.{eqb, lit<}
-use lib.ListN.{length, drop, get_or, drop_of_length-le, length-drop}
-use Rattle.std.specs.List.{enumerate_from}
-use Rattle.std.proofs.lemmas.List.{get_or_default}
-use Rattle.std.proofs.lemmas.List.FromFn.{length-enumerate_from, get_or-enumerate_from}
+use lib.ListN.{length, drop, get_or, drop_of_length-le}
 use lib.Seq.{drop-cons, get_or-drop}
 use borrow.Author.Tests.{ne_eqb, eqb-false}
 use Rattle.std.specs.Prelude.{Option, Some, None}
-use Rattle.std.proofs.Common.{Iter, Bor}
-use Rattle.std.specs.declared.iter.Skip.{Skip}
-use Rattle.std.specs.declared.iter.Enumerate.{Enumerate}
-use Rattle.std.proofs.iter.Yields.{fronts}
-use Rattle.std.specs.Iterator.{Yields}
-use Rattle.std.specs.Iterator.Adapters.{skip_source, skip_count, skip_steps, enumerate_source, enumerate_count, enumerate_steps}
-use Rattle.std.specs.Slice.Iter.{iter_rest}
-use Rattle.std.proofs.lemmas.Iterator.{YieldsList, YieldsList-from_slice}
-use Rattle.std.proofs.lemmas.Iterator.Consumers.{YieldsList-turn, YieldsList-end, YieldsList-from_enumerate}
-use Rattle.std.proofs.lemmas.Iterator.Adapters.{YieldsList-from_skip}
 use Rattle.numbers.specs.declared.Number.{Number}
 use Rattle.numbers.specs.Number.{number, more, decode, bounded, number_of, number_bound}
 use Rattle.numbers.proofs.Decode.{side, decode_one, decode-more, decode-first, bounded-small, bounded_large}
 
--- the bytes from the second on, each with its place, as the loop goes over them
-abbrev pub places : List ℕ → List (ℕ × ℕ)
-places s = drop 1 (enumerate_from 0 s)
+-- s as it is split into its first byte and the rest
+module _ {s rest : List ℕ} {first : ℕ} (split : s ≡ first ∷ rest) where
+  pub rest_length : length s ≡ length rest + 1
+  rest_length = rw split (omega arith)
 
--- the byte b of the place i, with n between it and the first
-pub record Byte (s : List ℕ) (n i b : ℕ) : Type 0 where
-  pub inside : n + 1 < length s
-  pub place : i ≡ n + 1
-  pub byte : b ≡ get_or s (n + 1) 0
-
-pub places_next : (s : List ℕ) (n i b : ℕ) → (n < length (places s)) × ((i, b) ≡ get_or (places s) n (i, b)) → Byte s n i b
-places_next s n i b h =
-    let inside : n + 1 < length s = omega (arith, simp (length-drop, length-enumerate_from) at h.0) in
-    let next : 1 + n ≡ n + 1 = omega arith in
-    let e : (i, b) ≡ (n + 1, get_or s (n + 1) b) = h.1 ∙ rw (get_or-drop 1 (enumerate_from 0 s) n (i, b), next, get_or-enumerate_from 0 s (n + 1) (i, b) inside, zero-add (n + 1)) in
-    record {
-      inside = inside;
-      place = ap (λ (p : ℕ × ℕ). p.0) e;
-      byte = ap (λ (p : ℕ × ℕ). p.1) e ∙ get_or_default s (n + 1) b 0 inside;
-    }
-
--- what `s.iter().enumerate().skip(1)` yields, as `all`, where it has yielded xs and `left` is left
-pub record Yielded (s : List ℕ) (xs : List (ℕ × Bor ℕ)) (left : Skip (Enumerate (Iter ℕ))) : Type 0 where
-  pub all : Skip (Enumerate (Iter ℕ))
-  pub so_far : Yields (skip_steps (enumerate_steps fronts)) all xs left
-  pub rest : iter_rest (enumerate_source (skip_source all)) ≡ s
-  pub from : enumerate_count (skip_source all) ≡ 0
-  pub skipped : skip_count all ≡ 1
-
-module _ {s : List ℕ} {xs : List (ℕ × Bor ℕ)} {left : Skip (Enumerate (Iter ℕ))} (y : Yielded s xs left) where
-  road : YieldsList (skip_steps (enumerate_steps fronts)) (λ p. (p.0, p.1.now)) y.all (places s)
-  road = YieldsList-from_skip 1 (YieldsList-from_enumerate (YieldsList-from_slice s y.rest) y.from) y.skipped
-
-  pub reading_byte : (r : Option (ℕ × Bor ℕ)) (next : Skip (Enumerate (Iter ℕ))) (i : ℕ) (b : Bor ℕ) → r ≡ Some (i, b)
-      → skip_steps (enumerate_steps fronts) left r next → Byte s (length xs) i b.now
-  reading_byte r next i b e turn = places_next s (length xs) i b.now (YieldsList-turn road xs left y.so_far r next (i, b) e turn)
-
-  pub reading_past : (r : Option (ℕ × Bor ℕ)) (next : Skip (Enumerate (Iter ℕ))) → r ≡ None → skip_steps (enumerate_steps fronts) left r next → length s ≤ length xs + 1
-  reading_past r next e turn = omega (arith, simp (length-drop, length-enumerate_from) at (YieldsList-end road xs left y.so_far r next e turn).1)
+  pub rest_byte : (i : ℕ) → get_or s (i + 1) 0 ≡ get_or rest i 0
+  rest_byte i = rw (split, add-one i)
 
 -- i bytes of value v in front of a number, whose groups begin at weight w
 abbrev pub extend : ℕ → ℕ → ℕ → Option Number → Option Number

@@ -23,7 +23,8 @@ pub fn read_number(s: &[u8]) -> Option<Number>
     ensures { result ≡ number_of s.now }
 {
     // most numbers of a log have one byte
-    let first = u32::from(*s.first()?);
+    let (&first, rest) = s.split_first()?;
+    let first = u32::from(first);
     let is_whole = first < 128;
     if is_whole {
         return Some(Number {
@@ -33,9 +34,10 @@ pub fn read_number(s: &[u8]) -> Option<Number>
     }
     let mut value = first - 128;
     let mut weight = 128;
-    for (i, &byte) in s.iter().enumerate().skip(1) {
+    // i is 0 at the second byte
+    for (i, &byte) in rest.iter().enumerate() {
         let byte = u32::from(byte);
-        if i == 4 && FIFTH_MOST < byte {
+        if i == 3 && FIFTH_MOST < byte {
             return None;
         }
         if byte < 128 {
@@ -46,7 +48,7 @@ pub fn read_number(s: &[u8]) -> Option<Number>
             }
             return Some(Number {
                 value: value + weight * byte,
-                size: i + 1,
+                size: i + 2,
             });
         }
         value += weight * (byte - 128);
