@@ -6,7 +6,7 @@ ghost use Rattle.call_log.specs.Record.{limit_of, limit_bound};
 ghost use Rattle.text.specs.Words.{words_in, words_of};
 ghost use Rattle.log_text.specs.Form.{form, Bounded};
 ghost use Rattle.log_text.specs.Reading.{take_number, take_option, take_word, take_slot, take_slots, get_with, poll_with, order_with, extra, made, keyword_of, unknown, line_of, limited};
-ghost use Rattle.log_line.specs.Steps.{known_words, seen};
+ghost use Rattle.log_line.specs.Steps.{seen};
 
 use call_log::{MOST_RECORDS, Record};
 use log_text::{Keyword, LIMIT_MOST, Line, NUMBER_MOST, Slot, Why};
@@ -64,31 +64,18 @@ fn unknown_word(begun: bool) -> Why
 }
 
 // The first word of a line.
+#[tactic(auto, using(crate::proofs::Keywords::same_laws), unfolding(text::specs::Words::same))]
 fn keyword_of(word: &[u8], begun: bool) -> Keyword
     ensures { result ≡ keyword_of begun word.now }
 {
-    for keyword in known_words(begun) {
-        if words::is_same(word, keyword.text()) {
-            return *keyword;
-        }
-    }
-    Keyword::Unknown
-}
-
-// The words that a line may begin with.
-fn known_words(begun: bool) -> &'static [Keyword]
-    ensures { result.now ≡ known_words begun }
-{
-    if begun {
-        &[
-            Keyword::Get,
-            Keyword::Poll,
-            Keyword::Release,
-            Keyword::Cancel,
-            Keyword::Tick,
-        ]
-    } else {
-        &[Keyword::Pool]
+    match (begun, word) {
+        (false, b"pool") => Keyword::Pool,
+        (true, b"get") => Keyword::Get,
+        (true, b"poll") => Keyword::Poll,
+        (true, b"release") => Keyword::Release,
+        (true, b"cancel") => Keyword::Cancel,
+        (true, b"tick") => Keyword::Tick,
+        _ => Keyword::Unknown,
     }
 }
 
