@@ -63,7 +63,13 @@ pub found : (s r : ℕ) → Range s r (r + 0) → r ≡ smallest s 0 last_place
 found s r o =
     let e : r + 0 ≡ r = omega arith in
     let k : r < last_place → s ≤ kind r = rw e at o.above in
-    smallest-only s 0 last_place r (record { from = omega arith; to = omega (arith, o.within); holds = λ h. k (omega (arith, h)); least = λ j _ b. o.below j b })
+    smallest-only s 0 last_place r
+    (record {
+      from = omega arith;
+      to = omega (arith, o.within);
+      holds = λ h. k (omega (arith, h));
+      least = λ j _ b. o.below j b;
+    })
 
 pub place-within : (s r : ℕ) → r ≡ smallest s 0 last_place → r ≤ last_place
 place-within s r e = omega (arith, e, (smallest-is s 0 last_place).to)
