@@ -1,43 +1,74 @@
--- The search for a kind, and the kinds in use. Assumes nothing.
+-- The search by halving, and the kinds in use. Assumes nothing.
 use Prim.Native.Nat.{ℕ, zero, suc, ◌+◌, ◌-◌, ◌≤◌, ◌<◌, max, min}
-use mathlib.Core.Path.{◌≡◌, ap}
-use mathlib.Core.Bool.{true, false}
+use mathlib.Core.Path.{◌≡◌, refl, ap}
+use mathlib.Core.List.{List, [], ◌∷◌}
 use native.Mathlib.Omega.{arith}
-use native.Mathlib.Nat.{zero-add, add-zero}
-use lib.Dec.{ltb}
-use lib.ListN.{get_or}
-use borrow.Author.Tests.{ltb-true, ltb-false, lt-ltb}
-use Rattle.std.specs.List.Sorted.{IsPartitionedBy, IsPartitionPoint}
-use Rattle.model.specs.Sizes.{kind, last_place, kinds_below, kinds_from, smallest, top_place, lowest_place, kind_for}
+use lib.ListN.{get_or, drop}
+use Rattle.std.specs.List.{sum}
+use Rattle.model.specs.Sizes.{kind, last_place, kinds_below, smallest, top_place, lowest_place, kind_for}
 use Rattle.model.proofs.Sizes.{Smallest, kind_grows, smallest-is, smallest-only}
 
--- ---- the place found in the table but for its last kind
+-- ---- the search by halving
 
-kind_at : (i n k d : ℕ) → k < n → get_or (kinds_from i n) k d ≡ kind (i + k)
-unfolding kinds_from
-kind_at i zero k d h = absurd (omega arith)
-kind_at i (suc n) zero d h = rw (add-zero i)
-kind_at i (suc n) (suc k) d h = let e : suc i + k ≡ i + suc k = omega arith in rw e at (kind_at (suc i) n k d (omega arith))
+-- the smallest kind that is at least s lies between two places: those before `low` are below s, and that at `high` is not, unless it is the last
+pub record Range (s low high : ℕ) : Type 0 where
+  pub within : high ≤ last_place
+  pub below : (j : ℕ) → j < low → kind j < s
+  pub above : high < last_place → s ≤ kind high
 
-table : (k d : ℕ) → k < last_place → get_or (kinds_from 0 last_place) k d ≡ kind k
-table k d h = rw (zero-add k) at (kind_at 0 last_place k d h)
+pub whole : (s : ℕ) → Range s 0 last_place
+whole s = record { within = omega arith; below = λ j h. absurd (omega (arith, h)); above = λ h. absurd (omega (arith, h)) }
 
--- the kinds below s stand before the others
-pub parted : (s : ℕ) → IsPartitionedBy (λ k. ltb k s) (kinds_from 0 last_place)
-unfolding kinds_from
-parted s i j d a b h =
-    let m : kind j < s = ltb-true (kind j) s (rw (table j d b) at h) in
-    rw (table i d (omega arith)) (lt-ltb (kind i) s (omega (arith, m, kind_grows i j a)))
+-- how many places each step skips, or none
+abbrev pub widths : List ℕ
+widths = 12 ∷ 6 ∷ 3 ∷ 1 ∷ 1 ∷ []
 
-pub found : (s r : ℕ) → r ≤ last_place → IsPartitionPoint (λ k. ltb k s ≡ true) (λ k. ltb k s ≡ false) (kinds_from 0 last_place) r → r ≡ smallest s 0 last_place
-unfolding kinds_from
-found s r b o =
+-- the steps from the i-th on skip so many at most
+unfoldable pub left : ℕ → ℕ
+left i = sum (drop i widths)
+
+-- a step of width w leaves v of the n places
+pub record Step (w n v : ℕ) : Type 0 where
+  pub sum : n ≡ w + v
+  pub half : w ≤ v + 1
+
+pub step : (i : ℕ) → i < 5 → Step (get_or widths i 0) (left i) (left (i + 1))
+unfolding left
+step zero h = record { sum = refl; half = omega arith }
+step (suc zero) h = record { sum = refl; half = omega arith }
+step (suc (suc zero)) h = record { sum = refl; half = omega arith }
+step (suc (suc (suc zero))) h = record { sum = refl; half = omega arith }
+step (suc (suc (suc (suc zero)))) h = record { sum = refl; half = omega arith }
+step (suc (suc (suc (suc (suc i))))) h = absurd (omega (arith, h))
+
+module _ {s i w n v : ℕ} (t : Step w n v) (o : Range s i (i + n)) where
+  pub skipped : kind (i + w - 1) < s → Range s (i + w) (i + w + v)
+  skipped k =
+      let e : i + w + v ≡ i + n = omega (arith, t.sum) in
+      record {
+        within = omega (arith, o.within, e);
+        below = λ j b. omega (arith, k, kind_grows j (i + w - 1) (omega (arith, b)));
+        above = rw e o.above;
+      }
+
+  pub stayed : s ≤ kind (i + w - 1) → Range s i (i + v)
+  stayed k =
+      record {
+        within = omega (arith, o.within, t.sum);
+        below = o.below;
+        above = λ _. omega (arith, k, kind_grows (i + w - 1) (i + v) (omega (arith, t.half)));
+      }
+
+pub found : (s r : ℕ) → Range s r (r + 0) → r ≡ smallest s 0 last_place
+found s r o =
+    let e : r + 0 ≡ r = omega arith in
+    let k : r < last_place → s ≤ kind r = rw e at o.above in
     smallest-only s 0 last_place r
     (record {
       from = omega arith;
-      to = omega arith;
-      holds = λ h. ltb-false (kind r) s (rw (table r 0 h) at (o.1 r 0 (omega arith) h));
-      least = λ j _ h. ltb-true (kind j) s (rw (table j 0 (omega arith)) at (o.0 j 0 (omega arith) h));
+      to = omega (arith, o.within);
+      holds = λ h. k (omega (arith, h));
+      least = λ j _ b. o.below j b;
     })
 
 pub place-within : (s r : ℕ) → r ≡ smallest s 0 last_place → r ≤ last_place
