@@ -102,7 +102,7 @@ returns c =
     let v = x.invariant.2 in
     let n : length es ≡ most_tasks = search rules in
     let still : Still v = elim c.loop-e-test.branch [
-      | else-loop-e-test w ↦ loop_out v (used_end es x.e-index n w.loop-e-test.false)
+      | else-loop-e-test w ↦ loop_out v (used_end es x.e-index n (omega (arith, n, w.loop-e-test.false)))
       | then-loop-e-test+then-e-eq0 w ↦ loop_out v (used_stop es x.e-index w.if-e-eq0.true)
       | then-loop-e-test+else-e-eq0+then-most-need w ↦ long es x.e-index v w.if-e-eq0.false w.need-need.result w.need-need.ensures w.if-most-need.true
       | then-loop-e-test+else-e-eq0+else-most-need+in_default w ↦ none es x.e-index v w.if-e-eq0.false w.need-need.result w.need-need.ensures w.first_fit.result w.first_fit.ensures w.in_default.is
