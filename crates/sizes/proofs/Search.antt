@@ -1,14 +1,13 @@
 -- The search by halving, and the kinds in use. Assumes nothing.
-use Prim.Native.Nat.{ℕ, zero, suc, ◌+◌, ◌-◌, ◌≤◌, ◌<◌, max, min}
-use mathlib.Core.Path.{◌≡◌, refl, ap}
-use mathlib.Core.List.{List, [], ◌∷◌}
+use Prim.Native.Nat.{ℕ, ◌+◌, ◌-◌, ◌≤◌, ◌<◌, max, min}
+use mathlib.Core.Path.{◌≡◌, ap, ◌∙◌}
 use native.Mathlib.Omega.{arith}
-use lib.ListN.{get_or, drop}
-use Rattle.std.specs.List.{sum}
+use lib.Dec.{leb}
+use borrow.Author.Tests.{leb-true, leb-false}
 use Rattle.model.specs.Sizes.{kind, last_place, kinds_below, smallest, top_place, lowest_place, kind_for}
+use Rattle.model.proofs.Tests.{by}
 use Rattle.model.proofs.Sizes.{Smallest, kind_grows, smallest-is, smallest-only}
-
--- ---- the search by halving
+use Rattle.sizes.specs.Search.{skipped}
 
 -- the smallest kind that is at least s lies between two places: those before `low` are below s, and that at `high` is not, unless it is the last
 pub record Range (s low high : ℕ) : Type 0 where
@@ -19,57 +18,30 @@ pub record Range (s low high : ℕ) : Type 0 where
 pub whole : (s : ℕ) → Range s 0 last_place
 whole s = record { within = omega arith; below = λ j h. absurd (omega (arith, h)); above = λ h. absurd (omega (arith, h)) }
 
--- how many places each step skips, or none
-abbrev pub widths : List ℕ
-widths = 12 ∷ 6 ∷ 3 ∷ 1 ∷ 1 ∷ []
-
--- the steps from the i-th on skip so many at most
-unfoldable pub left : ℕ → ℕ
-left i = sum (drop i widths)
-
--- a step of width w leaves v of the n places
-pub record Step (w n v : ℕ) : Type 0 where
-  pub sum : n ≡ w + v
-  pub half : w ≤ v + 1
-
-pub step : (i : ℕ) → i < 5 → Step (get_or widths i 0) (left i) (left (i + 1))
-unfolding left
-step zero h = record { sum = refl; half = omega arith }
-step (suc zero) h = record { sum = refl; half = omega arith }
-step (suc (suc zero)) h = record { sum = refl; half = omega arith }
-step (suc (suc (suc zero))) h = record { sum = refl; half = omega arith }
-step (suc (suc (suc (suc zero)))) h = record { sum = refl; half = omega arith }
-step (suc (suc (suc (suc (suc i))))) h = absurd (omega (arith, h))
-
-module _ {s i w n v : ℕ} (t : Step w n v) (o : Range s i (i + n)) where
-  pub skipped : kind (i + w - 1) < s → Range s (i + w) (i + w + v)
-  skipped k =
-      let e : i + w + v ≡ i + n = omega (arith, t.sum) in
-      record {
-        within = omega (arith, o.within, e);
-        below = λ j b. omega (arith, k, kind_grows j (i + w - 1) (omega (arith, b)));
-        above = rw e o.above;
-      }
-
-  pub stayed : s ≤ kind (i + w - 1) → Range s i (i + v)
-  stayed k =
-      record {
-        within = omega (arith, o.within, t.sum);
-        below = o.below;
-        above = λ _. omega (arith, k, kind_grows (i + w - 1) (i + v) (omega (arith, t.half)));
-      }
+-- a step leaves v places behind the one it answers
+pub skip_range : (s i w v n r : ℕ) → w ≤ v + 1 → n ≡ i + w + v → Range s i n → r ≡ skipped s i w → Range s r (r + v)
+skip_range s i w v n r m d o e =
+    by (leb s (kind (i + w - 1)))
+    (λ h. let k = leb-true s (kind (i + w - 1)) h in
+    let z : r ≡ i = e ∙ rw h in
+    rw z (record {
+      within = omega (arith, o.within, d);
+      below = o.below;
+      above = λ _. omega (arith, k, kind_grows (i + w - 1) (i + v) (omega (arith, m)));
+    }))
+    (λ h. let k = leb-false s (kind (i + w - 1)) h in
+    let z : r ≡ i + w = e ∙ rw h in
+    rw z (record {
+      within = omega (arith, o.within, d);
+      below = λ j b. omega (arith, k, kind_grows j (i + w - 1) (omega (arith, b)));
+      above = rw d at o.above;
+    }))
 
 pub found : (s r : ℕ) → Range s r (r + 0) → r ≡ smallest s 0 last_place
 found s r o =
     let e : r + 0 ≡ r = omega arith in
     let k : r < last_place → s ≤ kind r = rw e at o.above in
-    smallest-only s 0 last_place r
-    (record {
-      from = omega arith;
-      to = omega (arith, o.within);
-      holds = λ h. k (omega (arith, h));
-      least = λ j _ b. o.below j b;
-    })
+    smallest-only s 0 last_place r (record { from = omega arith; to = omega (arith, o.within); holds = λ h. k (omega (arith, h)); least = λ j _ b. o.below j b })
 
 pub place-within : (s r : ℕ) → r ≡ smallest s 0 last_place → r ≤ last_place
 place-within s r e = omega (arith, e, (smallest-is s 0 last_place).to)

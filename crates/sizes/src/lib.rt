@@ -4,6 +4,7 @@
 ghost use Rattle.std.specs.Prelude.{◌≡◌, ◌+◌, ◌≤◌};
 ghost use Rattle.model.specs.Sizes as sizes;
 ghost use Rattle.model.specs.Sizes.{last_place, smallest, kind_for, ok_greatest};
+ghost use Rattle.sizes.specs.Search.{skipped};
 ghost use Rattle.model.specs.Rules.{ok_kinds, most_asked, ok_size, need_of};
 
 use model::{Attributes, WITH_KINDS, WITHOUT_KINDS};
@@ -27,17 +28,26 @@ fn kind(place: usize) -> u32
     KINDS[place]
 }
 
+// The place behind `width` kinds from `at` on, where all of these are below `size`, else `at`.
+fn skip(at: usize, width: usize, size: u32) -> usize
+    requires { (1 ≤ width) × (at + width ≤ last_place) }
+    ensures { result ≡ skipped size at width }
+{
+    if kind(at + width - 1) < size {
+        return at + width;
+    }
+    at
+}
+
 // The place of the smallest kind that is at least `size`, or the last: found by halving, in five comparisons.
 fn place_for(size: u32) -> usize
     ensures { result ≡ smallest size 0 last_place }
 {
-    let mut place = 0;
-    for width in [12, 6, 3, 1, 1] {
-        if kind(place + width - 1) < size {
-            place += width;
-        }
-    }
-    place
+    let a = skip(0, 12, size);
+    let b = skip(a, 6, size);
+    let c = skip(b, 3, size);
+    let d = skip(c, 1, size);
+    skip(d, 1, size)
 }
 
 // The smallest kind that is at least `size`, of those in use where the greatest request is `greatest`.

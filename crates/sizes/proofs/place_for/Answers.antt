@@ -1,34 +1,23 @@
--- Each step of the search halves the places that are left.
-use Rattle.std.proofs.Common.{◌≡◌, arith}
-use Rattle.sizes.proofs.Search.{whole, left, step, skipped, stayed, found}
+-- Each step halves the places that are left.
+use Rattle.std.proofs.Common.{◌≡◌, ℕ, ◌+◌, arith}
+use Rattle.sizes.specs.Search.{skipped}
+use Rattle.sizes.proofs.Search.{Range, whole, skip_range, found}
 use Rattle.sizes.proofs.place_for.Goals as goal
-use Rattle.sizes.proofs.place_for.Goals.{then-kind-size, else-kind-size}
 
-pub loop-width-init : goal.loop-width-init
-unfolding left
-loop-width-init c = whole c.args.size
+-- the places that are left after each step
+after_12 : (s a : ℕ) → a ≡ skipped s 0 12 → Range s a (a + 11)
+after_12 s a e = skip_range s 0 12 11 _ a (omega arith) (omega arith) (whole s) e
 
-pub overflow_add-place : goal.overflow_add-place
-overflow_add-place c =
-    record { fits = omega (arith, c.loop-width.invariant.within, (step c.loop-width.width-index c.loop-width-test.true).sum) }
+after_6 : (s a b : ℕ) → a ≡ skipped s 0 12 → b ≡ skipped s a 6 → Range s b (b + 5)
+after_6 s a b e f = skip_range s a 6 5 _ b (omega arith) (omega arith) (after_12 s a e) f
 
-pub kind-requires : goal.kind-requires
-kind-requires c = omega (arith, c.loop-width.invariant.within, (step c.loop-width.width-index c.loop-width-test.true).sum)
+after_3 : (s a b c : ℕ) → a ≡ skipped s 0 12 → b ≡ skipped s a 6 → c ≡ skipped s b 3 → Range s c (c + 2)
+after_3 s a b c e f g = skip_range s b 3 2 _ c (omega arith) (omega arith) (after_6 s a b e f) g
 
-pub overflow_add-place-then-kind-size : goal.overflow_add-place-then-kind-size
-overflow_add-place-then-kind-size c =
-    record { fits = omega (arith, c.loop-width.invariant.within, (step c.loop-width.width-index c.loop-width-test.true).sum) }
-
-pub loop-width-preserved : goal.loop-width-preserved
-loop-width-preserved c =
-    let t = step c.loop-width.width-index c.loop-width-test.true in
-    elim c.if-kind-size.branch [
-      | then-kind-size w ↦ rw w.place-is (skipped t c.loop-width.invariant (rw c.kind.ensures at w.if-kind-size.true))
-      | else-kind-size w ↦ rw w.place-is (stayed t c.loop-width.invariant (rw c.kind.ensures at w.if-kind-size.false))
-    ]
+after_1 : (s a b c d : ℕ) → a ≡ skipped s 0 12 → b ≡ skipped s a 6 → c ≡ skipped s b 3 → d ≡ skipped s c 1 → Range s d (d + 1)
+after_1 s a b c d e f g h = skip_range s c 1 1 _ d (omega arith) (omega arith) (after_3 s a b c e f g) h
 
 pub returns : goal.returns
-unfolding left
 returns c =
-    let e : c.loop-width.width-index ≡ 5 = omega (arith, c.loop-width.auto.width-index-end, c.loop-width-test.false) in
-    found c.args.size c.loop-width.place (rw e at c.loop-width.invariant)
+    found _ c.skip.result
+    (skip_range _ _ 1 0 _ _ (omega arith) (omega arith) (after_1 _ _ _ _ _ c.skip-a.ensures c.skip-b.ensures c.skip-c.ensures c.skip-d.ensures) c.skip.ensures)
