@@ -138,11 +138,17 @@ fn put_line(out: &mut Output, parts: Parts)
     requires { Room (length (parts_text parts)) out.old }
     ensures { Puts out.old (parts_text parts) out.new }
 {
-    out.put(parts.keyword.text());
+    // an output of its own: no byte that is written can change its place, which stays in a register
+    let mut line = Output {
+        buffer: out.buffer,
+        end: out.end,
+    };
+    line.put(parts.keyword.text());
     for (i, slot) in parts.keyword.form().iter().enumerate() {
-        put_slot(out, *slot, parts.arguments[i]);
+        put_slot(&mut line, *slot, parts.arguments[i]);
     }
-    out.put(b"\n");
+    line.put_byte(b'\n');
+    out.end = line.end;
 }
 
 // Writes the words of a slot, a space in front of each.
@@ -186,7 +192,7 @@ fn put_word(out: &mut Output, word: &[u8])
     requires { Room (1 + length word.now) out.old }
     ensures { Puts out.old (ascii " " ++ word.now) out.new }
 {
-    out.put(b" ");
+    out.put_byte(b' ');
     out.put(word);
 }
 
@@ -195,6 +201,6 @@ fn put_number(out: &mut Output, n: u64)
     requires { Room (1 + length (decimal n)) out.old }
     ensures { Puts out.old (ascii " " ++ decimal n) out.new }
 {
-    out.put(b" ");
+    out.put_byte(b' ');
     text::put_decimal(out, n as usize);
 }

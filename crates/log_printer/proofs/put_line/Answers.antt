@@ -1,6 +1,6 @@
 -- `put_line` meets its contract: the slots one after another, then the newline.
 use Rattle.std.proofs.Common.{refl, rules, arith, length, ℕ, List, [], ◌≡◌, ◌+◌, ◌<◌, ◌≤◌, ◌++◌, get_or, length-append}
-use Rattle.output.proofs.Puts.{puts-append, puts_room, putting_start, putting_room, putting_next, putting_end}
+use Rattle.output.proofs.Puts.{puts-append, puts_room, puts-whole, putting_start, putting_room, putting_next, putting_end}
 use Rattle.log_text.specs.declared.Keyword.{Keyword}
 use Rattle.log_text.specs.declared.Slot.{Slot}
 use Rattle.log_text.specs.declared.Slot.TheVariants.{Number}
@@ -37,8 +37,8 @@ put_slot-requires c = putting_room c.loop-i.invariant _ _ (next _ _ _ _ c.form-s
 pub loop-i-preserved : goal.loop-i-preserved
 loop-i-preserved c = putting_next c.loop-i.invariant _ (next _ _ _ _ c.form-slot-items.ensures (search rules) c.loop-i-test.true) c.put_slot.ensures
 
-pub put-requires-2 : goal.put-requires-2
-put-requires-2 c =
+pub put_byte-requires : goal.put_byte-requires
+put_byte-requires c =
     let parts = c.args.parts in
     let last = line-last parts.keyword parts.arguments c.loop-i.i (omega (arith, rw c.form-slot-items.ensures at c.loop-i-test.false)) in
     putting_room c.loop-i.invariant (ascii "\n") [] last
@@ -47,5 +47,7 @@ pub returns : goal.returns
 returns c =
     let parts = c.args.parts in
     let last = line-last parts.keyword parts.arguments c.loop-i.i (omega (arith, rw c.form-slot-items.ensures at c.loop-i-test.false)) in
+    let written =
+    puts-append (rw c.text.ensures at c.put.ensures) (putting_end (putting_next c.loop-i.invariant [] last c.put_byte.ensures) refl) in
     rw (line_first parts.keyword parts.arguments)
-    (puts-append (rw c.text.ensures at c.put.ensures) (putting_end (putting_next c.loop-i.invariant [] last c.put-2.ensures) refl))
+    record { same_reference = search rules; wrote = puts-whole written (record { bytes = refl; place = refl }) (search rules) }
