@@ -18,7 +18,7 @@ pub fn put_decimal(out: &mut Output, n: usize)
     out.end = put_digits(out.buffer, out.end, n);
 }
 
-// Writes a number's digits from the place `at` on, and answers the place behind them: handed on by value, it stays in a register.
+// Writes the digits of a number from the place `at` on, and answers the place behind them, by value: so it stays in a register.
 fn put_digits(buffer: &mut [u8], at: usize, n: usize) -> usize
     requires { at + length (decimal n) ≤ length buffer.old }
     ensures { Wrote buffer.old at (decimal n) buffer.new result }

@@ -4,4 +4,4 @@ use Rattle.log_printer.proofs.Lines.{left_from}
 use Rattle.log_printer.proofs.put_line.Given as goal
 
 abbrev pub invariant-loop-i : goal.invariant-loop-i
-invariant-loop-i l = Putting l.initial.line (left_from l.parts.keyword l.parts.arguments 0) l.line (left_from l.parts.keyword l.parts.arguments l.i)
+invariant-loop-i l = Putting l.initial.line (left_from l.fn.parts.keyword l.fn.parts.arguments 0) l.line (left_from l.fn.parts.keyword l.fn.parts.arguments l.i)
