@@ -7,7 +7,8 @@ ghost use Rattle.output.specs.Fill.{outcome};
 ghost use Rattle.text.specs.Ascii.{ascii};
 ghost use Rattle.text.specs.Decimal.{decimal};
 ghost use Rattle.log_text.specs.Form.{keyword_text};
-ghost use Rattle.log_text.specs.Printing.{longest_line, parts, pool_parts, parts_of, option_words, flag_words, slot_words, slots_words, spaced, parts_text, print_records};
+ghost use Rattle.log_text.specs.Printing.{longest_line, parts, pool_parts, parts_of, parts_text, print_records};
+ghost use Rattle.log_text.specs.Printing.{option_words, flag_words, slot_words, slots_words, spaced};
 ghost use Rattle.log_printer.specs.Printer.{print_log};
 ghost use Rattle.log_printer.specs.Steps.{measured, text_in, RoomFor};
 
