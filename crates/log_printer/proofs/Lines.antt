@@ -1,11 +1,13 @@
 -- Laws of the text of a line: its slots one after another. Assumes nothing.
 use Prim.Native.Nat.{ℕ, zero, suc, ◌+◌, ◌-◌, ◌<◌, ◌≤◌}
+use mathlib.Core.Logic.{⊎_elim}
 use mathlib.Core.Path.{◌≡◌, refl}
 use mathlib.Core.List.{List, [], ◌∷◌, ◌++◌, append_assoc, append-nil}
 use native.Mathlib.Omega.{arith}
 use native.Mathlib.Numerals.{add-one}
-use lib.ListN.{length, drop, get_or}
+use lib.ListN.{length, take, drop, get_or, drop_of_length-le}
 use lib.Seq.{drop-cons}
+use Rattle.numbers.proofs.Decode.{side}
 use Rattle.text.specs.Ascii.{ascii}
 use Rattle.text.specs.Decimal.{decimal}
 use Rattle.log_text.specs.declared.Keyword.{Keyword}
@@ -49,6 +51,16 @@ slots_past [] (suc i) vs h = refl
 slots_past (s ∷ ss) zero vs h = absurd (omega arith)
 slots_past (s ∷ ss) (suc i) vs h = slots_past ss i vs (omega arith)
 
+-- the words of one slot, none behind the last
+module _ (ss : List Slot) (v : ℕ) (i : ℕ) where
+  pub slot_inside : (d : Slot) → i < length ss → spaced (slots_words (take 1 (drop i ss)) (v ∷ [])) ≡ spaced (slot_words (get_or ss i d) v)
+  unfolding slots_words
+  slot_inside d h = rw (drop-cons ss i d h, append-nil (slot_words (get_or ss i d) v))
+
+  pub slot_behind : length ss ≤ i → spaced (slots_words (take 1 (drop i ss)) (v ∷ [])) ≡ []
+  unfolding spaced slots_words
+  slot_behind h = rw (drop_of_length-le ss h)
+
 module _ (k : Keyword) (vs : List ℕ) where
   abbrev pub left_from : ℕ → List ℕ
   left_from i = spaced (slots_words (drop i (form k)) (drop i vs)) ++ ascii "\n"
@@ -71,3 +83,10 @@ module _ (k : Keyword) (vs : List ℕ) where
   pub line-last : (i : ℕ) → length (form k) ≤ i → left_from i ≡ ascii "\n"
   unfolding spaced
   line-last i h = rw (slots_past (form k) i (drop i vs) h)
+
+  pub line_step : (i : ℕ) → length vs ≡ 4 → left_from i ≡ spaced (slots_words (take 1 (drop i (form k))) (get_or vs i 0 ∷ [])) ++ left_from (i + 1)
+  line_step i four =
+      ⊎_elim
+      (λ h. rw (slot_inside (form k) (get_or vs i 0) i Number h) (line_next i h four))
+      (λ h. rw (slot_behind (form k) (get_or vs i 0) i h, line-last i h, line-last (i + 1) (omega arith)) refl)
+      (side i (length (form k)))

@@ -1,12 +1,14 @@
 // The printer: the canonical text of a log is written into a lent buffer.
 #![tactic(auto)]
 
-ghost use Rattle.std.specs.Prelude.{◌+◌, ◌≤◌, ◌≡◌, ◌++◌, length};
+ghost use Rattle.std.specs.Prelude.{◌+◌, ◌≤◌, ◌≡◌, ◌++◌, [], ◌∷◌, length, take, drop};
 ghost use Rattle.output.specs.Puts.{Room, Puts};
 ghost use Rattle.output.specs.Fill.{outcome};
 ghost use Rattle.text.specs.Ascii.{ascii};
 ghost use Rattle.text.specs.Decimal.{decimal};
-ghost use Rattle.log_text.specs.Printing.{longest_line, parts, pool_parts, parts_of, option_words, flag_words, slot_words, spaced, parts_text, print_records};
+ghost use Rattle.log_text.specs.Form.{keyword_text};
+ghost use Rattle.log_text.specs.Printing.{longest_line, parts, pool_parts, parts_of, parts_text, print_records};
+ghost use Rattle.log_text.specs.Printing.{option_words, flag_words, slot_words, slots_words, spaced};
 ghost use Rattle.log_printer.specs.Printer.{print_log};
 ghost use Rattle.log_printer.specs.Steps.{measured, text_in, RoomFor};
 
@@ -138,11 +140,46 @@ fn put_line(out: &mut Output, parts: Parts)
     requires { Room (length (parts_text parts)) out.old }
     ensures { Puts out.old (parts_text parts) out.new }
 {
-    out.put(parts.keyword.text());
-    for (i, slot) in parts.keyword.form().iter().enumerate() {
-        put_slot(out, *slot, parts.arguments[i]);
+    let Parts { keyword, arguments } = parts;
+    // an output of its own: no byte that is written can change its place, which stays in a register
+    let mut line = Output {
+        buffer: out.buffer,
+        end: out.end,
+    };
+    put_keyword(&mut line, keyword);
+    let form = keyword.form();
+    // a turn for each argument, and not for each slot: the compiler unrolls a loop of so many turns
+    for (i, argument) in arguments.iter().enumerate() {
+        put_slot_at(&mut line, form, i, *argument);
     }
-    out.put(b"\n");
+    line.put_byte(b'\n');
+    out.end = line.end;
+}
+
+// Writes the first word.
+fn put_keyword(out: &mut Output, keyword: Keyword)
+    requires { Room (length (keyword_text keyword)) out.old }
+    ensures { Puts out.old (keyword_text keyword) out.new }
+{
+    match keyword {
+        Keyword::Pool => out.put(b"pool"),
+        Keyword::Get => out.put(b"get"),
+        Keyword::Poll => out.put(b"poll"),
+        Keyword::Release => out.put(b"release"),
+        Keyword::Cancel => out.put(b"cancel"),
+        Keyword::Tick => out.put(b"tick"),
+        Keyword::Unknown => {}
+    }
+}
+
+// Writes the words of slot number i of a line, counted from 0, or nothing behind the last slot.
+fn put_slot_at(out: &mut Output, form: &[Slot], i: usize, argument: u64)
+    requires { Room (length (spaced (slots_words (take 1 (drop i form.now)) (argument ∷ [])))) out.old }
+    ensures { Puts out.old (spaced (slots_words (take 1 (drop i form.now)) (argument ∷ []))) out.new }
+{
+    if let Some(slot) = form.get(i) {
+        put_slot(out, *slot, argument);
+    }
 }
 
 // Writes the words of a slot, a space in front of each.
@@ -186,7 +223,7 @@ fn put_word(out: &mut Output, word: &[u8])
     requires { Room (1 + length word.now) out.old }
     ensures { Puts out.old (ascii " " ++ word.now) out.new }
 {
-    out.put(b" ");
+    out.put_byte(b' ');
     out.put(word);
 }
 
@@ -195,6 +232,6 @@ fn put_number(out: &mut Output, n: u64)
     requires { Room (1 + length (decimal n)) out.old }
     ensures { Puts out.old (ascii " " ++ decimal n) out.new }
 {
-    out.put(b" ");
+    out.put_byte(b' ');
     text::put_decimal(out, n as usize);
 }
