@@ -161,14 +161,9 @@ fn put_keyword(out: &mut Output, keyword: Keyword)
     requires { Room (length (keyword_text keyword)) out.old }
     ensures { Puts out.old (keyword_text keyword) out.new }
 {
-    match keyword {
-        Keyword::Pool => out.put(b"pool"),
-        Keyword::Get => out.put(b"get"),
-        Keyword::Poll => out.put(b"poll"),
-        Keyword::Release => out.put(b"release"),
-        Keyword::Cancel => out.put(b"cancel"),
-        Keyword::Tick => out.put(b"tick"),
-        Keyword::Unknown => {}
+    // byte by byte: a copy of so few bytes, of a length that is not known, costs more
+    for &byte in keyword.text() {
+        out.put_byte(byte);
     }
 }
 
