@@ -61,8 +61,13 @@ fn measure(log: &[u8], place: usize, first: usize) -> Result<usize, PrintError>
     let mut at = place;
     let mut count: usize = 0;
     let mut length = first;
-    // from record to record, by the place that an error tells
-    while let Some(taken) = call_log::read_record(&log[at..]).map_err(|_| PrintError::Bad(at))? {
+    // from record to record, by the place that an error tells; `map_err` and `?` would load the tag and the first number of
+    // a record as one word, right after they were stored apart
+    loop {
+        let Ok(read) = call_log::read_record(&log[at..]) else {
+            return Err(PrintError::Bad(at));
+        };
+        let Some(taken) = read else { return Ok(length) };
         if MOST_RECORDS <= count {
             return Err(PrintError::TooMany);
         }
@@ -70,7 +75,6 @@ fn measure(log: &[u8], place: usize, first: usize) -> Result<usize, PrintError>
         at += taken.size;
         count += 1;
     }
-    Ok(length)
 }
 
 // How many bytes a line has, as in log_parser.
