@@ -68,8 +68,8 @@ module _ (text buf : List ℕ) (room : longest_log ≤ length buf) (after : List
       rw same d.2
 
   module _ {last : List ℕ} {end : ℕ} where
-    pub response-refused : (a : Result ℕ ParseError) → refuses a ≡ true → outcome a after ≡ parse_text text buf → Wrote after 0 (refusal_line a) last end → length (refusal_line a) ≤ longest_log
-        → Responded (response_for text buf) buf last end
+    pub response-refused : (a : Result ℕ ParseError) → refuses a ≡ true → outcome a after ≡ parse_text text buf → Wrote after 0 (refusal_line a) last end
+        → length (refusal_line a) ≤ longest_log → Responded (response_for text buf) buf last end
     response-refused a k e w h = responded_refused (told text) (Err NoRoom) refusal_line buf room a after k e w h
 
     pub response_none : outcome (Err NoRoom) after ≡ parse_text text buf → Responded (response_for text buf) buf last end

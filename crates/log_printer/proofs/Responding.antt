@@ -57,8 +57,8 @@ module _ (log buf : List ℕ) (room : longest_printed ≤ length buf) (after : L
       rw same d.2
 
   module _ {last : List ℕ} {end : ℕ} where
-    pub response-refused : (a : Result ℕ PrintError) → refuses a ≡ true → outcome a after ≡ print_log log buf → Wrote after 0 (refusal_line a) last end → length (refusal_line a) ≤ longest_printed
-        → Responded (response_for log buf) buf last end
+    pub response-refused : (a : Result ℕ PrintError) → refuses a ≡ true → outcome a after ≡ print_log log buf → Wrote after 0 (refusal_line a) last end
+        → length (refusal_line a) ≤ longest_printed → Responded (response_for log buf) buf last end
     response-refused a k e w h = responded_refused (told log) (Err NoRoom) refusal_line buf room a after k e w h
 
     pub response_none : outcome (Err NoRoom) after ≡ print_log log buf → Responded (response_for log buf) buf last end

@@ -55,8 +55,9 @@ fn kind_for(greatest: u32, size: u32) -> u32
     ensures { result ≡ kind_for greatest size }
 {
     let top = place_for(greatest);
-    let lowest = top.saturating_sub(KINDS_BELOW);
-    kind(place_for(size).clamp(lowest, top))
+    let place = place_for(size).min(top);
+    // no lower than KINDS_BELOW places below the top
+    kind((place + KINDS_BELOW).max(top) - KINDS_BELOW)
 }
 
 // Whether a pool of `n` bytes with kinds may have this greatest request.
